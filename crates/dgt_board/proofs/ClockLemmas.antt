@@ -20,8 +20,7 @@ eq-clock_eq (clock.Times a) (clock.Times b) = grind (arith, common_steps)
 eq-clock_eq (clock.NoClock a) (clock.NoClock b) =
     ap (λ same. same && a.status.code.value == b.status.code.value)
     (pointwise-map number (λ x y. x == y) a.raw b.raw)
-eq-clock_eq (clock.Times a) (clock.NoClock b) = refl
-eq-clock_eq (clock.NoClock a) (clock.Times b) = refl
+eq-clock_eq _ _ = refl
 
 -- the result of `==` for a clock that was reported, or none, and a clock
 pub option_eq-is_reported : (reported : Option Clock) (shown : Clock)

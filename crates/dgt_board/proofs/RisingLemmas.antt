@@ -1,6 +1,6 @@
 -- Squares are reported in the order of their numbers.
-use Rattle.std.proofs.{Common.{arith, ◌≡◌, refl, ℕ, zero, suc, ◌+◌, ◌<◌, ◌≤◌, List, [], ◌∷◌, ◌++◌, Some, Bool, true, false, cond, inl, inr, rules}, lemmas.Bool.{eqb-true, Decides.{eqb_tells}}}
-use Rattle.{std.specs.{List.{range_with_len}, Prelude.{◌==◌, ◌≢◌, ◌⊎◌, filter, map, slice_get}}, dgt_values.{specs.declared.pieces.Piece.{Piece}, proofs.PieceCodes.{same_code}}}
+use Rattle.std.proofs.{Common.{arith, ◌≡◌, refl, ℕ, zero, suc, ◌+◌, ◌<◌, ◌≤◌, List, [], ◌∷◌, ◌++◌, Some, Bool, true, false, cond, rules}, lemmas.Bool.{eqb-true, Decides.{eqb_tells}}}
+use Rattle.{std.specs.{List.{range_with_len}, Prelude.{filter, map, slice_get}}, dgt_values.{specs.declared.pieces.Piece.{Piece}, proofs.PieceCodes.{same_code}}}
 use Rattle.{dgt_message.specs.{Clock.{ClockState}, Content.{Content, clock_message}}, dgt_board.specs.Sending.{clock_news, differs, every_square, field_of, next_message, piece_on, unreported_squares}}
 use Rattle.dgt_board.specs.State.{BoardState, updates}
 
@@ -9,19 +9,7 @@ before_first : (test : ℕ → Bool) (a n at : ℕ) (rest : List ℕ)
     → filter test (range_with_len a n) ≡ at ∷ rest → (k : ℕ) → a ≤ k → k < at → test k ≡ false
 before_first test a zero at rest e k from below = cc
 before_first test a (suc n) at rest e k from below =
-    go (test a) refl e (eqb_tells k a)
-    (λ fails more. before_first test (a + 1) n at rest fails k more below)
-  where
-    later : List ℕ
-    later = filter test (range_with_len (a + 1) n)
-
-    go : (passes : Bool) → test a ≡ passes → cond passes (a ∷ later) later ≡ at ∷ rest
-        → ((k == a ≡ true) × (k ≡ a)) ⊎ ((k == a ≡ false) × (k ≢ a))
-        → (later ≡ at ∷ rest → a + 1 ≤ k → test k ≡ false) → test k ≡ false
-    go true here e which behind = let first : a ≡ at = cc in
-        absurd (omega (arith, first, from, below))
-    go false here e (inl same) behind = rw same.1 here
-    go false here e (inr other) behind = behind e (omega (arith, other.1, from))
+    search (rules, arith, eqb_tells k a, before_first test (a + 1) n at rest)
 
 -- the same of the squares that an update mode has yet to report
 before_square : (asks : Bool) (test : ℕ → Bool) (at lower : ℕ) (rest : List ℕ)

@@ -1,8 +1,8 @@
 -- The squares that differ from what was reported, and the first of them.
-use Rattle.std.proofs.{Common.{arith, ◌≡◌, refl, ap, sym, ◌∙◌, ◌^◌, ℕ, zero, suc, ◌+◌, ◌<◌, [], Some, None, Bool, true, false, not, add-zero, zero-add, rules}, lemmas.Bool.{eq-eqb, ne_eqb}}
-use Rattle.std.{proofs.lemmas.{Bool.{false≢true}, Nat.{bit_set_by_shift}, Option.{slice_get-get_or}, Nat.Bits.{bit_at-trailing_zeros, bit_at-zero, shr_and_one}}, specs.Int.{bit_at, trailing_zeros}}
-use Rattle.{std.specs.{Int.{w64}, List.{range_with_len}, Prelude.{◌≢◌, filter, length, slice_get}}, dgt_values.specs.{Board.{piece_code, DifferingSquares}, declared.pieces.Piece.{Piece}}}
-use Rattle.{dgt_values.proofs.PieceCodes.{same_code}, dgt_board.specs.{Sending.{differs, every_square, piece_on}, State.{BoardState}}}
+use Rattle.std.proofs.{Common.{arith, ◌≡◌, refl, ap, sym, ◌∙◌, ◌^◌, ℕ, zero, suc, ◌+◌, ◌<◌, [], Some, None, Bool, true, false, not, add-zero, zero-add, rules}, lemmas.Bool.{ne_eqb}}
+use Rattle.std.{proofs.lemmas.{Grind.{common_steps}, Nat.{bit_set_by_shift, Bits.{bit_at-trailing_zeros, bit_at-zero, shr_and_one}}, Option.{slice_get-get_or}}, specs.Int.{bit_at}}
+use Rattle.{std.specs.{Int.{trailing_zeros, w64}, List.{range_with_len}, Prelude.{filter, length, slice_get}}, dgt_values.specs.Board.{DifferingSquares}}
+use Rattle.{dgt_values.{specs.declared.pieces.Piece.{Piece}, proofs.PieceCodes.{same_code}}, dgt_board.specs.{Sending.{differs, every_square}, State.{BoardState}}}
 
 -- nothing of a range passes a test that fails along it
 none_passes : (test : ℕ → Bool) (a n : ℕ) → ((k : ℕ) → k < n → test (a + k) ≡ false)
@@ -55,24 +55,15 @@ module _ (board : BoardState) (mask : ℕ) (reported_all : length board.reported
 
   -- a square with its bit clear doesn't differ
   clear_same : (k : ℕ) → k < 64 → bit_at mask k ≡ 0 → differs board k ≡ false
-  clear_same k within clear =
-      let reported = slice_get-get_or board.reported_squares k Piece.Empty (omega arith) in
-      let shown = slice_get-get_or board.squares k Piece.Empty (omega arith) in
-      go (differs board k) refl reported shown
-    where
-      go : (differing : Bool) → differs board k ≡ differing
-          → slice_get board.reported_squares k ≡ Some (piece_on board.reported_squares k)
-          → slice_get board.squares k ≡ Some (piece_on board.squares k) → differing ≡ false
-      go false e reported shown = refl
-      go true e reported shown =
-          let apart : slice_get board.reported_squares k ≢ slice_get board.squares k = λ same.
-          let pieces : Some (piece_on board.reported_squares k) ≡ Some (piece_on board.squares k) =
-          sym reported ∙ same ∙ shown in
-          let piece : piece_on board.reported_squares k ≡ piece_on board.squares k = cc in
-          absurd (false≢true (sym (ap not (eq-eqb _ _ (ap piece_code piece))) ∙ e)) in
-          let one =
-          sym (shr_and_one mask k) ∙ (bit_set_by_shift mask k).1 ((reports k within).1 apart) in
-          absurd (omega (arith, clear, one))
+  clear_same k within clear = grind (
+    arith,
+    common_steps,
+    reports k within,
+    bit_set_by_shift mask k,
+    shr_and_one mask k,
+    slice_get-get_or board.reported_squares k Piece.Empty,
+    slice_get-get_or board.squares k Piece.Empty,
+  )
 
   -- with no bit set, no square differs
   pub none_differs : mask ≡ 0 → slice_get (filter (differs board) every_square) 0 ≡ None

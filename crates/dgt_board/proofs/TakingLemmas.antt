@@ -1,5 +1,5 @@
 -- The bytes that a board has taken.
-use Rattle.{std.proofs.Common.{◌≡◌, refl, ap, ℕ, List, [], ◌∷◌, ◌++◌, Some, append-nil, append_assoc, rules}, dgt_command.specs.{Content.{EventContent}, Laws.{DivisionsAppend}, Words.{IsPartial}}}
+use Rattle.{std.proofs.Common.{◌≡◌, refl, ℕ, List, [], ◌∷◌, ◌++◌, Some, append-nil, append_assoc, rules}, dgt_command.specs.{Content.{EventContent}, Laws.{DivisionsAppend}, Words.{IsPartial}}}
 use Rattle.{dgt_command.specs.Words.{IsWord}, dgt_board.specs.{State.{BoardState, effect, effects}, View.{BoardView, HasTaken, after_bytes}}}
 
 -- bytes that complete a frame are taken
@@ -9,11 +9,7 @@ pub takes_word : IsPartial [] → (before after : BoardView) (bytes : List ℕ) 
     → (after ≡ after_bytes before bytes (Some event)) × HasTaken before bytes after
 takes_word nothing before after bytes event word state rest = (
   rw (← state, ← rest) refl,
-  record {
-    events = event ∷ [];
-    divided = search (rules, append-nil);
-    state = state;
-  },
+  record { events = event ∷ []; divided = search (rules, append-nil); state = state },
 )
 
 -- the effects of a whole list are those of its parts in order

@@ -1,5 +1,5 @@
 -- How a follower changes by the events of bytes in chunks.
-use Rattle.std.proofs.{Common.{◌≡◌, ◌+◌, Option, Bool, is_some, option_map, refl, sym, ap, ◌∙◌, ℕ, List, [], ◌∷◌, ◌++◌, append_assoc, append-nil, take, drop, rules}, Math.Seq.{take-add}}
+use Rattle.std.proofs.{Common.{◌≡◌, ◌+◌, Option, Bool, is_some, option_map, refl, ap, ◌∙◌, ℕ, List, [], ◌∷◌, ◌++◌, append_assoc, take, drop, rules}, Math.Seq.{take-add}}
 use Rattle.{std.proofs.lemmas.List.{take_all}, dgt_decode.specs.{Feeding.{FirstEvent}, Grammar.{Event, Placed, events, shifted, unfinished_message}, Laws.{EventsAppend, UnfinishedAppend}}}
 use Rattle.{dgt_values.specs.declared.{kinds.Kind.{Kind}, pieces.Piece.{Piece}}, dgt_host.specs.Host.{HostView, host_after, host_after_events}, dgt_follow.specs.Follower.{FollowedInChunks}}
 use Rattle.dgt_follow.specs.{Follower.{FollowerView, follower_after, follower_after_event, follower_after_events, follower_hearing, following, with_unfinished, with_unread}, Pace.{KeepsCount}}
@@ -19,11 +19,6 @@ follower_after_events-behind f now n [] = refl
 follower_after_events-behind f now n (x ∷ xs) =
     follower_after_events-behind (follower_after_event f now x.event) now n xs
 
-follower_after_event-unread : (f : FollowerView) (now : ℕ) (unread : List ℕ) (event : Event)
-    → follower_after_event (with_unread f unread) now event
-    ≡ with_unread (follower_after_event f now event) unread
-follower_after_event-unread f now unread event = search rules
-
 -- a part that is restored after them, and that none of them reads, doesn't matter
 follower_after_events-part : {X : Type 0} (put : FollowerView → X → FollowerView)
     → ((f : FollowerView) (first last : X) → put (put f first) last ≡ put f last)
@@ -34,10 +29,9 @@ follower_after_events-part : {X : Type 0} (put : FollowerView → X → Follower
     ≡ put (follower_after_events f now xs) after
 follower_after_events-part put last same f now before after [] = last f before after
 follower_after_events-part put last same f now before after (x ∷ xs) =
-    ap (λ (g : FollowerView). put (follower_after_events g now xs) after)
-    (same f now before x.event)
-    ∙ follower_after_events-part put last same (follower_after_event f now x.event) now before after
-    xs
+    rw (same f now before x.event)
+    (follower_after_events-part put last same (follower_after_event f now x.event) now before after
+    xs)
 
 -- the events of two chunks, one after the other
 both : EventsAppend → (f : FollowerView) (now : ℕ) (s more : List ℕ)
@@ -53,25 +47,12 @@ in_two : EventsAppend → UnfinishedAppend → (f : FollowerView) (now : ℕ) (s
     (events (unfinished_message s ++ more))) (unfinished_message (unfinished_message s ++ more))
     ≡ with_unread (follower_after_events f now (events whole)) (unfinished_message whole)
 in_two later still f now s more whole e =
-    follower_after_events-part with_unread (λ f first last. refl) follower_after_event-unread
-    (follower_after_events f now (events s)) now (unfinished_message s)
-    (unfinished_message (unfinished_message s ++ more)) (events (unfinished_message s ++ more))
-    ∙ ap (λ (g : FollowerView). with_unread g (unfinished_message (unfinished_message s ++ more)))
-    (both later f now s more)
-    ∙ ap
-    (λ (unread : List ℕ). with_unread (follower_after_events f now (events (s ++ more))) unread)
-    (sym (still s more))
-    ∙ ap
-    (λ (bytes : List ℕ). with_unread (follower_after_events f now (events bytes))
-    (unfinished_message bytes)) e
+    follower_after_events-part with_unread (λ f first last. refl)
+    (λ f now unread event. search rules) (follower_after_events f now (events s)) now
+    (unfinished_message s) _ (events (unfinished_message s ++ more))
+    ∙ cc (both later f now s more, still s more)
 
 -- ---- whether a message was unfinished before doesn't matter
-
-follower_after_event-unfinished : (f : FollowerView) (now : ℕ) (unfinished : Option ℕ)
-    (event : Event)
-    → follower_after_event (with_unfinished f unfinished) now event
-    ≡ with_unfinished (follower_after_event f now event) unfinished
-follower_after_event-unfinished f now unfinished event = search rules
 
 hearing-unfinished : (f : FollowerView) (now : ℕ) (before after : Option ℕ) (bytes : List ℕ)
     → with_unfinished (follower_hearing (with_unfinished f before) now bytes) after
@@ -79,7 +60,8 @@ hearing-unfinished : (f : FollowerView) (now : ℕ) (before after : Option ℕ) 
 hearing-unfinished f now before after bytes =
     ap (λ (g : FollowerView). with_unread g (unfinished_message (f.host.unread ++ bytes)))
     (follower_after_events-part with_unfinished (λ f first last. refl)
-    follower_after_event-unfinished f now before after (events (f.host.unread ++ bytes)))
+    (λ f now unfinished event. search rules) f now before after
+    (events (f.host.unread ++ bytes)))
 
 hearing_in_two : EventsAppend → UnfinishedAppend
     → (f : FollowerView) (now : ℕ) (bytes more : List ℕ)
@@ -87,22 +69,14 @@ hearing_in_two : EventsAppend → UnfinishedAppend
     ≡ follower_hearing f now (bytes ++ more)
 hearing_in_two later still f now bytes more = search (rules, in_two, append_assoc)
 
-nothing_more : UnfinishedAppend → (s more : List ℕ) → more ≡ []
-    → unfinished_message s ≡ unfinished_message (unfinished_message s ++ more)
-nothing_more still s more none = search (rules, append-nil)
-
 pub followed_in_chunks : EventsAppend → UnfinishedAppend → FollowedInChunks
 followed_in_chunks later still f now bytes more =
-    let s = f.host.unread ++ bytes in
-    let first = unfinished_message s in
-    let last = unfinished_message (first ++ more) in
+    let first = unfinished_message (f.host.unread ++ bytes) in
     let before = unfinished_by f.pace.unfinished now bytes first in
-    let after = unfinished_by before now more last in
-    hearing-unfinished (follower_hearing f now bytes) now before after more
-    ∙ ap (λ (g : FollowerView). with_unfinished g after)
-    (hearing_in_two later still f now bytes more)
-    ∙ ap (with_unfinished (follower_hearing f now (bytes ++ more)))
-    (search (rules, nothing_more, append_assoc))
+    let after = unfinished_by before now more (unfinished_message (first ++ more)) in
+    let forgotten = hearing-unfinished (follower_hearing f now bytes) now before after more in
+    let joined = hearing_in_two later still f now bytes more in
+    search (rules, append_assoc)
 
 -- some more bytes of a chunk
 pub heard_more : FollowedInChunks

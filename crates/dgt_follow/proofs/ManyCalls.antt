@@ -1,10 +1,9 @@
 -- How consecutive calls of a follower change its picture.
-use Rattle.{std.proofs.Common.{◌≡◌, Bool, true, Option, refl, ℕ, List, [], ◌∷◌, ◌++◌, append_assoc, append-nil, rules}, dgt_values.specs.declared.pieces.Piece.{Piece}}
-use Rattle.{dgt_message.specs.{Content.{Content}, Picture.{picture_after, picture_after_all}}, dgt_decode.specs.{Grammar.{events, unfinished_message}, Laws.{EventsAppend, UnfinishedAppend}}}
-use Rattle.{dgt_decode.specs.Laws.{UnfinishedIsQuiet}, dgt_host.{specs.Confirmed.{confirmed_after, confirmed_after_all, messages}, proofs.ConfirmedLemmas.{confirms_more, pictures_append}}}
-use Rattle.{dgt_host.proofs.StretchLemmas.{messages_append, messages_behind}, dgt_follow.specs.Calls.{Hears, Asks, Sends, SetsMode, SetsConfirm, SetsIdentify, AsksNow, Disturbs, ConfirmedOverCalls}}
-use Rattle.dgt_follow.specs.{Calls.{bytes_heard, follower_after_call, follower_after_calls, follower_asking}, Follower.{AskingsConfirmNothing, ConfirmedAsHeard, FollowerView, asking_of}}
-use Rattle.dgt_follow.specs.{Follower.{follower_after}, declared.asking.Asking.{Asking}}
+use Rattle.{std.proofs.Common.{◌≡◌, Bool, true, Option, refl, ℕ, List, [], ◌∷◌, ◌++◌, append_assoc, rules}, dgt_values.specs.declared.pieces.Piece.{Piece}, dgt_message.specs.Content.{Content}}
+use Rattle.{dgt_message.specs.Picture.{picture_after, picture_after_all}, dgt_decode.specs.{Grammar.{events, unfinished_message}, Laws.{EventsAppend, UnfinishedAppend, UnfinishedIsQuiet}}}
+use Rattle.dgt_host.{specs.Confirmed.{confirmed_after, confirmed_after_all, messages}, proofs.{ConfirmedLemmas.{confirms_more, pictures_append}, StretchLemmas.{messages_append, messages_behind}}}
+use Rattle.dgt_follow.specs.{Calls.{Hears, Asks, ConfirmedOverCalls, bytes_heard, follower_after_call, follower_after_calls, follower_asking}, Follower.{AskingsConfirmNothing, ConfirmedAsHeard}}
+use Rattle.dgt_follow.specs.{Follower.{FollowerView, asking_of, follower_after}, declared.asking.Asking.{Asking}}
 
 confirmed_append : (confirmed : Bool) (picture : Option (List Piece)) (said more : List Content)
     → confirmed_after_all confirmed picture (said ++ more) ≡ confirmed_after_all
@@ -33,7 +32,7 @@ module _ (later : EventsAppend) (still : UnfinishedAppend) (quiet : UnfinishedIs
     (heard : ConfirmedAsHeard) (none : AskingsConfirmNothing) where
   nothing_more : (unread : List ℕ) → unfinished_message unread ≡ unread
       → messages (events (unread ++ [])) ≡ []
-  nothing_more unread held = search (rules, append-nil)
+  nothing_more unread held = search rules
 
   -- the messages heard after some bytes
   joined : (f between after : FollowerView) (bytes more : List ℕ)
@@ -41,60 +40,31 @@ module _ (later : EventsAppend) (still : UnfinishedAppend) (quiet : UnfinishedIs
       → Made f between (messages (events (f.host.unread ++ bytes)))
       → Made between after (messages (events (between.host.unread ++ more)))
       → Made f after (messages (events (f.host.unread ++ (bytes ++ more))))
-  joined f between after bytes more unread first next =
-      search (
-        rules,
-        append_assoc,
-        pictures_append,
-        confirmed_append,
-        confirms_more,
-        messages_append,
-        messages_behind,
-      )
+  joined f between after bytes more unread first next = search (
+    rules,
+    append_assoc,
+    pictures_append,
+    confirmed_append,
+    confirms_more,
+    messages_append,
+    messages_behind,
+  )
 
   kept : (f between after : FollowerView) (bytes : List ℕ) → Keeps f between
       → Made between after (messages (events (between.host.unread ++ bytes)))
       → Made f after (messages (events (f.host.unread ++ bytes)))
   kept f between after bytes (picture, unread, less) next = search (rules, confirms_more)
 
-  unread_after : (f : FollowerView) (now : ℕ) (bytes : List ℕ)
-      → unfinished_message (follower_after f now bytes).host.unread
-      ≡ (follower_after f now bytes).host.unread
-  unread_after f now bytes = quiet.stays (f.host.unread ++ bytes)
-
   pub over_calls : ConfirmedOverCalls
-  over_calls f [] held = let no = nothing_more f.host.unread held in rw no (refl, λ e. e)
+  over_calls f [] held = search (rules, nothing_more)
   over_calls f (Hears now bytes ∷ more) held =
       joined f (follower_after f now bytes) (follower_after_calls (follower_after f now bytes) more)
       bytes (bytes_heard more) refl (heard f now bytes)
-      (over_calls (follower_after f now bytes) more (unread_after f now bytes))
+      (over_calls (follower_after f now bytes) more (quiet.stays (f.host.unread ++ bytes)))
   over_calls f (Asks now ∷ more) held =
-      let what = asking_of f now in
-      let keeps = asking_keeps none what f now in
-      let between : FollowerView = follower_asking what f now in
+      let keeps = asking_keeps none (asking_of f now) f now in
+      let between : FollowerView = follower_after_call f (Asks now) in
       kept f between (follower_after_calls between more) (bytes_heard more) keeps
       (over_calls between more (rw (keeps.1) held))
-  over_calls f (Sends kind ∷ more) held =
-      let between : FollowerView = follower_after_call f (Sends kind) in
-      kept f between (follower_after_calls between more) (bytes_heard more) (refl, refl, λ e. e)
-      (over_calls between more held)
-  over_calls f (SetsMode mode ∷ more) held =
-      let between : FollowerView = follower_after_call f (SetsMode mode) in
-      kept f between (follower_after_calls between more) (bytes_heard more) (refl, refl, λ e. e)
-      (over_calls between more held)
-  over_calls f (SetsConfirm confirm ∷ more) held =
-      let between : FollowerView = follower_after_call f (SetsConfirm confirm) in
-      kept f between (follower_after_calls between more) (bytes_heard more) (refl, refl, λ e. e)
-      (over_calls between more held)
-  over_calls f (SetsIdentify identify ∷ more) held =
-      let between : FollowerView = follower_after_call f (SetsIdentify identify) in
-      kept f between (follower_after_calls between more) (bytes_heard more) (refl, refl, λ e. e)
-      (over_calls between more held)
-  over_calls f (AsksNow ∷ more) held =
-      let between : FollowerView = follower_after_call f AsksNow in
-      kept f between (follower_after_calls between more) (bytes_heard more) (refl, refl, λ e. e)
-      (over_calls between more held)
-  over_calls f (Disturbs ∷ more) held =
-      let between : FollowerView = follower_after_call f Disturbs in
-      kept f between (follower_after_calls between more) (bytes_heard more) (refl, refl, λ e. cc)
-      (over_calls between more held)
+  over_calls f (call ∷ more) held =
+      search (rules, confirms_more, over_calls (follower_after_call f call) more held)

@@ -1,5 +1,5 @@
 -- A slice after a host's request, with a mode's command and the clock's request.
-use Rattle.std.proofs.Common.{◌≡◌, ◌≢◌, ◌+◌, ◌-◌, ◌<◌, ◌≤◌, ℕ, List, [], ◌∷◌, ◌++◌, Some, Ok, refl, sym, ap, ◌∙◌, append_assoc, length, drop, take, slice_set, Option, arith, rules}
+use Rattle.std.proofs.Common.{◌≡◌, ◌≢◌, ◌+◌, ◌-◌, ◌<◌, ◌≤◌, ℕ, List, [], ◌∷◌, ◌++◌, Some, Ok, refl, sym, append_assoc, length, drop, take, slice_set, Option, arith, rules}
 use Rattle.{std.proofs.{Math.Seq.{set-append_seam}, lemmas.List.{drop-append-le, drop-drop, length-append, length-drop, length-take, take-append-drop}}, dgt_values.specs.declared.kinds.Kind.{Kind}}
 use Rattle.{dgt_command.specs.{Content.{CommandContent}, Encoding.{command_encoding}}, dgt_host.specs.Host.{HostView, Sends, follow_bytes, host_awaiting, restart_bytes, without_awaited}}
 use Rattle.dgt_follow.specs.{Follower.{HostAsks}, Pace.{clock_request, mode_command, sent_bytes}, declared.asking.{Asking.{Asking}, UpdateMode.{UpdateMode}}}
@@ -12,8 +12,8 @@ set_after xs ys n b long some = search (rules, set-append_seam, append_assoc)
 set_in_slice : (bytes old : List ℕ) (n b : ℕ) → length bytes ≡ n → n + 1 ≤ length old
     → slice_set (bytes ++ drop n old) n b ≡ (bytes ++ b ∷ []) ++ drop (n + 1) old
 set_in_slice bytes old n b long room =
-    set_after bytes (drop n old) n b long (omega (arith, length-drop n old, room))
-    ∙ ap (λ (kept : List ℕ). (bytes ++ b ∷ []) ++ kept) (drop-drop 1 n old)
+    rw (← drop-drop 1 n old)
+    (set_after bytes (drop n old) n b long (omega (arith, length-drop n old)))
 
 -- ---- a request
 
@@ -31,13 +31,10 @@ pub heartbeat_asks : (mode : UpdateMode) (code sent written : ℕ) (before after
     → HostAsks Asking.Heartbeat mode before after old new (Ok written)
 heartbeat_asks mode code sent written before after old followed new encoded all e host count room
     follows =
-    let dump : List ℕ = command_encoding CommandContent.Dump in
-    let bytes : List ℕ = command_encoding (mode_command mode) ++ dump in
-    let two : length bytes ≡ 2 = ap (λ (bs : List ℕ). length (bs ++ dump)) encoded in
-    let prefix : followed ≡ follow_bytes ++ drop 2 old =
-    e ∙ ap (λ (n : ℕ). follow_bytes ++ drop n old) all in
-    let set : slice_set followed 0 code ≡ bytes ++ drop 2 old
-    = search rules in
+    let bytes : List ℕ =
+    command_encoding (mode_command mode) ++ command_encoding CommandContent.Dump in
+    let two : length bytes ≡ 2 = search rules in
+    let set : slice_set followed 0 code ≡ bytes ++ drop 2 old = search rules in
     let long : written ≡ length (bytes ++ clock_request mode)
     = omega (arith, count, two, length-append bytes (clock_request mode)) in
     ((long, room, follows bytes old two set), host)
@@ -50,27 +47,15 @@ pub anew_asks : (mode : UpdateMode) (code sent written : ℕ) (before after : Ho
     → RequestFollows mode 258 written (slice_set begun sent code) new
     → HostAsks Asking.Anew mode before after old new (Ok written)
 anew_asks mode code sent written before after old begun new encoded all e host count room follows =
-    let mode_bytes : List ℕ = command_encoding (mode_command mode) in
-    let whole : length (restart_bytes ++ mode_bytes) ≡ 258
-    = length-append restart_bytes mode_bytes
-    ∙ ap (λ (bs : List ℕ). length restart_bytes + length bs) encoded in
-    let prefix : begun ≡ restart_bytes ++ drop 257 old =
-    e ∙ ap (λ (n : ℕ). restart_bytes ++ drop n old) all in
-    let set : slice_set begun sent code ≡ (restart_bytes ++ mode_bytes) ++ drop 258 old
-    =
-    ap (λ (n : ℕ). slice_set begun n code) all ∙ ap (λ (bs : List ℕ). slice_set bs 257 code) prefix
-    ∙ set_in_slice restart_bytes old 257 code refl (omega (arith, count, room))
-    ∙ ap (λ (bs : List ℕ). (restart_bytes ++ bs) ++ drop 258 old) (sym encoded) in
-    let long : written ≡ length ((restart_bytes ++ mode_bytes) ++ clock_request mode)
-    =
-    omega (arith, count, whole, length-append (restart_bytes ++ mode_bytes) (clock_request mode)) in
-    ((long, room, follows (restart_bytes ++ mode_bytes) old whole set), host)
+    let bytes : List ℕ = restart_bytes ++ command_encoding (mode_command mode) in
+    let placed = set_in_slice restart_bytes old 257 code refl (omega (arith, count, room)) in
+    let whole : length bytes ≡ 258 = search rules in
+    let set : slice_set begun sent code ≡ bytes ++ drop 258 old = cc in
+    let long : written ≡ length (bytes ++ clock_request mode)
+    = omega (arith, count, whole, length-append bytes (clock_request mode)) in
+    ((long, room, follows bytes old whole set), host)
 
 -- ---- another command
-
-frame_bytes : (mode : UpdateMode) (said : CommandContent) → length (command_encoding said) ≢ 1
-    → sent_bytes mode said ≡ command_encoding said ++ command_encoding (mode_command mode)
-frame_bytes mode said long = search rules
 
 some_bytes : (said : CommandContent) → 0 < length (command_encoding said)
 some_bytes said = search rules
@@ -79,8 +64,8 @@ some_bytes said = search rules
 rest_after : (old : List ℕ) (written room : ℕ) → written ≤ length (take room old)
     → drop written (take room old) ++ drop room old ≡ drop written old
 rest_after old written room within =
-    sym (drop-append-le written (take room old) (drop room old) within)
-    ∙ ap (λ (bytes : List ℕ). drop written bytes) (take-append-drop room old)
+    rw (← drop-append-le written (take room old) (drop room old) within, take-append-drop room old)
+    refl
 
 -- A frame is written into all of a slice but its last byte, and the mode's command after it.
 pub frame_sent : (mode : UpdateMode) (said : CommandContent) (kind : Option Kind)
@@ -93,22 +78,15 @@ pub frame_sent : (mode : UpdateMode) (said : CommandContent) (kind : Option Kind
     (slice_set (front ++ drop room old) written code) (Ok (written + 1))
 frame_sent mode said kind code written room before after old front long encoded short sent =
     let bytes = command_encoding said in
-    let all : sent_bytes mode said ≡ bytes ++ code ∷ []
-    = frame_bytes mode said long ∙ ap (λ (last : List ℕ). bytes ++ last) encoded in
+    let all : sent_bytes mode said ≡ bytes ++ code ∷ [] = search rules in
     let within : written + 1 ≤ length old
     = omega (arith, some_bytes said, short, sent.1, sent.2, length-take room old) in
     let whole : front ++ drop room old ≡ bytes ++ drop written old
-    = ap (λ (slice : List ℕ). slice ++ drop room old) sent.3
-    ∙ append_assoc bytes (drop written (take room old)) (drop room old)
-    ∙ ap (λ (kept : List ℕ). bytes ++ kept) (rest_after old written room sent.2) in
-    let set : slice_set (front ++ drop room old) written code
-    ≡ (bytes ++ code ∷ []) ++ drop (written + 1) old
-    = ap (λ (slice : List ℕ). slice_set slice written code) whole
-    ∙ set_in_slice bytes old written code (sym sent.1) within in
-    let counted : written + 1 ≡ length (bytes ++ code ∷ [])
-    = omega (arith, sent.1, length-append bytes (code ∷ [])) in
-    rw all (sent.0, counted, within, set, sent.4)
+    = rw (sent.3, append_assoc, rest_after old written room sent.2) refl in
+    let set = set_in_slice bytes old written code (sym sent.1) within in
+    let longer = length-append bytes (code ∷ []) in
+    rw all (sent.0, omega (arith, sent.1, longer), within, rw whole set, sent.4)
 
 pub short_sent : (mode : UpdateMode) (said : CommandContent) → length (command_encoding said) ≤ 257
     → length (sent_bytes mode said) ≤ 259
-short_sent mode said short = search (rules, arith, length-append)
+short_sent mode said short = search (rules, length-append)

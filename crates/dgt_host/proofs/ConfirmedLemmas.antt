@@ -1,11 +1,10 @@
 -- The effect of a faulty line on a confirmed picture.
-use Rattle.std.proofs.Common.{◌≡◌, ◌⊎◌, inl, inr, ◌+◌, ◌≤◌, Bool, true, false, not, ◌&&◌, nat_eq, Option, Some, None, refl, sym, ap, ◌∙◌, ℕ, List, [], ◌∷◌, ◌++◌, append_assoc, zero, suc, slice_get}
-use Rattle.std.{proofs.{Common.{slice_set, option_to_list, arith, rules}, Math.Bool.{and-true}, lemmas.{Bool.{eqb-true, eq-eqb, false≢true}, Grind.{common_steps}}}, specs.Prelude.{◌↔◌, ◌≢◌, IsTrue}}
+use Rattle.std.proofs.Common.{◌≡◌, ◌⊎◌, inl, inr, ◌+◌, ◌≤◌, Bool, true, false, not, ◌&&◌, nat_eq, Option, Some, None, refl, sym, ap, ◌∙◌, ℕ, List, [], ◌∷◌, ◌++◌, zero, suc, slice_get, slice_set}
+use Rattle.std.{proofs.{Common.{option_to_list, rules}, lemmas.{Grind.{flat_map-append}, Bool.{eqb-true, eq-eqb, false≢true}}, Math.Bool.{and-true}}, specs.Prelude.{◌↔◌, IsTrue}}
 use Rattle.dgt_values.{specs.{Board.{piece_code}, declared.{pieces.Piece.{Piece}, positions.Position.{Position}, squares.Square.{Square}}}, proofs.PieceCodes.{same_code}}
-use Rattle.dgt_message.specs.{Content.{Content, content}, Picture.{picture_after, picture_after_all}, Content.Content.{dump, field}, declared.message.Message.{Message}}
-use Rattle.dgt_host.specs.Confirmed.{same_pieces, differ, changes, repeats, confirmed_after, confirmed_after_all, AllLeave, Passage, Whole, Faulty, heard_in, sent, heard, faults_after}
-use Rattle.dgt_host.specs.Confirmed.{faults_after_all, IsRight, reported_by, ConfirmedWasReported, ConfirmedIsReported, TwoFaultsSuffice, LateFaultsSuffice, UnconfirmedIsWrong, ConfirmedByDump}
-use Rattle.dgt_host.specs.Confirmed.{ChangesIsExact, FaultlessIsRight}
+use Rattle.dgt_message.specs.{Content.{Content, content, Content.{dump, field}}, Picture.{picture_after, picture_after_all}, declared.message.Message.{Message}}
+use Rattle.dgt_host.specs.Confirmed.{same_pieces, differ, changes, repeats, confirmed_after, confirmed_after_all, AllLeave, Passage, Whole, Faulty, sent, heard, faults_after, faults_after_all}
+use Rattle.dgt_host.specs.Confirmed.{IsRight, ConfirmedWasReported, ConfirmedIsReported, TwoFaultsSuffice, LateFaultsSuffice, UnconfirmedIsWrong, ConfirmedByDump, ChangesIsExact, FaultlessIsRight}
 
 -- ---- Booleans
 
@@ -27,13 +26,7 @@ pub same_is : (a b : List Piece) → same_pieces a b ≡ true → a ≡ b
 same_is [] [] e = refl
 same_is [] (y ∷ b) e = cc
 same_is (x ∷ a) [] e = cc
-same_is (x ∷ a) (y ∷ b) e =
-    let head : x ≡ y =
-    same_code x y
-    (eqb-true _ _ (first_of (nat_eq (piece_code x) (piece_code y)) (same_pieces a b) e)) in
-    let tail : a ≡ b =
-    same_is a b (second_of (nat_eq (piece_code x) (piece_code y)) (same_pieces a b) e) in
-    cc
+same_is (x ∷ a) (y ∷ b) e = search (rules, same_code, eqb-true, same_is a b)
 
 pub is_same : (a : List Piece) → same_pieces a a ≡ true
 is_same [] = refl
@@ -42,8 +35,7 @@ is_same (x ∷ a) = rw (eq-eqb (piece_code x) (piece_code x) refl) (is_same a)
 -- whether two pictures are compared as equal
 pub compared : (equal : Bool) (a b : List Piece) → IsTrue equal ↔ (a ≡ b)
     → not equal ≡ not (same_pieces a b)
-compared true a b iff = rw (iff.0 refl, is_same b) refl
-compared false a b iff = search (rules, false≢true, same_is)
+compared equal a b iff = search (rules, false≢true, same_is, is_same)
 
 -- one square is set
 pub same_set : (a : List Piece) (square : ℕ) (before after : Piece)
@@ -51,8 +43,7 @@ pub same_set : (a : List Piece) (square : ℕ) (before after : Piece)
     → same_pieces a (slice_set a square after) ≡ nat_eq (piece_code before) (piece_code after)
 same_set [] square before after e = cc
 same_set (x ∷ a) zero before after e = search (rules, is_same, and-true)
-same_set (x ∷ a) (suc square) before after e =
-    rw (eq-eqb (piece_code x) (piece_code x) refl) (same_set a square before after e)
+same_set (x ∷ a) (suc square) before after e = search (rules, eq-eqb, same_set a square)
 
 pub unmoved : (picture : Option (List Piece)) → differ picture picture ≡ false
 unmoved picture = search (rules, is_same)
@@ -79,13 +70,7 @@ Known shown = (known : List Piece) × (shown ≡ Some known)
 stays : (confirmed : Bool) (shown : Option (List Piece)) (said : Content)
     → (confirmed ≡ true → Known shown) → confirmed_after confirmed shown said ≡ true
     → Known shown × (picture_after shown said ≡ shown)
-stays confirmed shown said is e = search (rules, same_is, first_of, not_true, second_of, unchanged)
-
--- a known picture stays known
-known_after : (known : List Piece) (said : Content) → Known (picture_after (Some known) said)
-known_after known (dump pieces) = (pieces, refl)
-known_after known (field square piece) = (slice_set known square piece, refl)
-known_after known _ = (known, refl)
+stays confirmed shown said is e = search (rules, same_is, unchanged)
 
 -- a message that isn't a dump
 record NoDump (said : Content) : Type 0 where
@@ -98,9 +83,12 @@ record NoDump (said : Content) : Type 0 where
 kinds : (said : Content) → ((pieces : List Piece) × (said ≡ dump pieces)) ⊎ NoDump said
 kinds said = search rules
 
+-- a known picture stays known
 some_after : (picture : Option (List Piece)) (said : Content) → Known picture
     → Known (picture_after picture said)
-some_after picture said (known, is) = rw is (known_after known said)
+some_after (Some known) (field square piece) is = (slice_set known square piece, refl)
+some_after picture (dump pieces) is = (pieces, refl)
+some_after picture said is = is
 
 -- ---- Without a fault
 
@@ -109,11 +97,11 @@ Right reported shown = (shown ≡ None) ⊎ (shown ≡ reported)
 
 right_known : (reported shown : Option (List Piece)) → Right reported shown → Known shown
     → shown ≡ reported
-right_known reported shown h2 is = search rules
+right_known reported shown right is = search rules
 
 right_after : (reported shown : Option (List Piece)) (said : Content) → NoDump said
     → Right reported shown → Right (picture_after reported said) (picture_after shown said)
-right_after reported shown said no_dump h4 = search rules
+right_after reported shown said no_dump right = search rules
 
 -- ---- What always holds
 
@@ -153,33 +141,21 @@ all_hold : (reported : Option (List Piece)) (restated : Bool) (shown : Option (L
 all_hold reported restated shown confirmed faults [] holds = holds
 all_hold reported restated shown confirmed faults (Whole said ∷ more) holds =
     all_hold (picture_after reported said) (confirmed_after restated reported said)
-    (picture_after shown said)
-    (confirmed_after confirmed shown said) (faults_after faults (Whole said)) more
+    (picture_after shown said) (confirmed_after confirmed shown said)
+    (faults_after faults (Whole said)) more
     (whole_holds reported restated shown confirmed faults holds said)
-all_hold reported restated shown confirmed faults (Faulty None None ∷ more) holds =
-    all_hold reported restated shown confirmed (faults + 1) more
-    (faulty_holds reported restated shown confirmed faults None None holds)
-all_hold reported restated shown confirmed faults (Faulty None (Some b) ∷ more) holds =
-    all_hold reported restated (picture_after shown b) (confirmed_after confirmed shown b)
-    (faults + 1) more (faulty_holds reported restated shown confirmed faults None (Some b) holds)
-all_hold reported restated shown confirmed faults (Faulty (Some a) None ∷ more) holds =
-    all_hold (picture_after reported a) (confirmed_after restated reported a) shown confirmed
-    (faults + 1) more (faulty_holds reported restated shown confirmed faults (Some a) None holds)
-all_hold reported restated shown confirmed faults (Faulty (Some a) (Some b) ∷ more) holds =
-    all_hold (picture_after reported a) (confirmed_after restated reported a)
-    (picture_after shown b) (confirmed_after confirmed shown b) (faults + 1) more
-    (faulty_holds reported restated shown confirmed faults (Some a) (Some b) holds)
+all_hold reported restated shown confirmed faults (Faulty a b ∷ more) holds =
+    let rest =
+    all_hold (picture_after_all reported (option_to_list a))
+    (confirmed_after_all restated reported (option_to_list a))
+    (picture_after_all shown (option_to_list b))
+    (confirmed_after_all confirmed shown (option_to_list b)) (faults + 1) more
+    (faulty_holds reported restated shown confirmed faults a b holds) in
+    search rules
 
 begins : (reported : List Piece) (shown : Option (List Piece)) → IsRight reported shown
     → Holds (Some reported) false shown false 0
-begins reported shown right =
-    record {
-      reports = (reported, refl);
-      known = λ e. cc;
-      right = λ e. right;
-      is =
-          λ e again few. cc;
-    }
+begins reported shown right = search rules
 
 pub confirmed_is : ConfirmedIsReported
 confirmed_is reported shown line right few again e =
@@ -193,10 +169,6 @@ pub pictures_append : (picture : Option (List Piece)) (said more : List Content)
 pictures_append picture [] more = refl
 pictures_append picture (m ∷ said) more = pictures_append (picture_after picture m) said more
 
-heard_append : (earlier later : List Passage)
-    → heard (earlier ++ later) ≡ heard earlier ++ heard later
-heard_append earlier later = grind (arith, common_steps, append_assoc)
-
 all_leave : (pieces : List Piece) (said : List Content) → AllLeave pieces said
     → picture_after_all (Some pieces) said ≡ Some pieces
 all_leave pieces [] leave = refl
@@ -207,31 +179,15 @@ repeated : (shown : Option (List Piece)) (pieces : List Piece) → repeats shown
 repeated (Some known) pieces e = ap Some (same_is known pieces e)
 repeated None pieces e = cc
 
-shown_by : (reported shown : Option (List Piece)) (pieces : List Piece) (faults : ℕ)
-    (passage : Passage) → (faults ≡ 0 → Right reported shown) → heard_in passage ≡ dump pieces ∷ []
-    → repeats shown pieces ≡ true → faults_after faults passage ≤ 1
-    → Some pieces ≡ reported_by reported passage
-shown_by reported shown pieces faults passage right is again few =
-    search (rules, repeated, right_known)
-
 pub confirmed_was : ConfirmedWasReported
 confirmed_was reported pieces shown earlier later passage right is again leave few =
-    let before : Option (List Piece) = picture_after_all shown (heard earlier) in
     let held = all_hold (Some reported) false shown false 0 earlier (begins reported shown right) in
-    search (rules, heard_append, pictures_append, all_leave, shown_by)
+    search (rules, flat_map-append, pictures_append, all_leave, repeated, right_known)
 
 -- ---- Why the premises are needed
 
 pub two_faults : TwoFaultsSuffice
-two_faults a b =
-    record {
-      counts = refl;
-      restates = is_same a;
-      confirms = is_same b;
-      reports = refl;
-      shows =
-          refl;
-    }
+two_faults a b = search (rules, is_same)
 
 pub late_faults : LateFaultsSuffice
 late_faults a square piece changed = search (rules, is_same)
@@ -253,12 +209,6 @@ Before : Option (List Piece) → Bool → List Content → Type 0
 Before shown confirmed said =
     (confirmed ≡ true) × ((known : List Piece) → shown ≡ Some known → AllLeave known said)
 
-later_by : (shown : Option (List Piece)) (m : Content) (said : List Content)
-    → By (picture_after shown m) said → By shown (m ∷ said)
-unfolding By
-later_by shown m said (pieces, before, after, is, again, leave) =
-    (pieces, m ∷ before, after, ap (λ (xs : List Content). m ∷ xs) is, again, leave)
-
 by_which : (shown : Option (List Piece)) (confirmed : Bool) (said : List Content)
     → confirmed_after_all confirmed shown said ≡ true → Before shown confirmed said ⊎ By shown said
 unfolding By Before
@@ -266,7 +216,8 @@ by_which shown confirmed [] e = inl (e, λ known is. tt)
 by_which shown confirmed (m ∷ said) e =
     elim (by_which (picture_after shown m) (confirmed_after confirmed shown m) said e) [
       | inl before ↦ go (kinds m) before
-      | inr by ↦ inr (later_by shown m said by)
+      | inr (pieces, before, after, is, again, leave) ↦
+          inr (pieces, m ∷ before, after, ap (λ (xs : List Content). m ∷ xs) is, again, leave)
     ]
   where
     go : ((pieces : List Piece) × (m ≡ dump pieces)) ⊎ NoDump m
@@ -284,15 +235,7 @@ by_which shown confirmed (m ∷ said) e =
         let both : (confirmed && not (changes shown m)) ≡ true =
         sym (no_dump.rest confirmed shown) ∙ again in
         let same : changes shown m ≡ false = not_true _ (second_of confirmed _ both) in
-        inl (
-          first_of confirmed _ both,
-          λ known is. (
-            rw is at same,
-            leave known
-                (ap (λ (p : Option (List Piece)). picture_after p m) is
-                ∙ unchanged known m (rw is at same)),
-          ),
-        )
+        inl (first_of confirmed _ both, λ known is. search (rules, unchanged))
 
 pub by_dump : ConfirmedByDump
 unfolding By Before
@@ -309,15 +252,10 @@ faultless reported shown line right none =
 
 -- ---- A follower records no more than its messages say
 
-more_confirms : (a b : Bool) → (a ≡ true → b ≡ true)
-    → (picture : Option (List Piece)) (said : Content) → confirmed_after a picture said ≡ true
-    → confirmed_after b picture said ≡ true
-more_confirms a b more picture said e = search (rules, kinds, first_of, second_of)
-
 pub confirms_more : (a b : Bool) → (a ≡ true → b ≡ true)
     → (picture : Option (List Piece)) (said : List Content)
     → confirmed_after_all a picture said ≡ true → confirmed_after_all b picture said ≡ true
 confirms_more a b more picture [] e = more e
 confirms_more a b more picture (m ∷ said) e =
     confirms_more (confirmed_after a picture m) (confirmed_after b picture m)
-    (more_confirms a b more picture m) (picture_after picture m) said e
+    (search (rules, kinds, first_of, second_of)) (picture_after picture m) said e

@@ -1,6 +1,6 @@
 -- Bytes that a line has altered, between whole messages.
-use Rattle.{std.{proofs.Common.{◌≡◌, ◌+◌, refl, ap, ◌∙◌, ℕ, List, [], ◌∷◌, ◌++◌, append_assoc, append-nil, rules}, specs.List.{AllByRecursion, flat_map}}, dgt_message.specs.Content.{Content}}
-use Rattle.{dgt_message.specs.{Content.{IsMessage}, Encoding.{encoding}}, dgt_decode.specs.{Grammar.{Message, Placed, cut_of, events, shifted, unfinished_message}, Laws.{EncodingIsRead}}}
+use Rattle.{std.{proofs.Common.{◌≡◌, refl, ap, ◌∙◌, ℕ, List, [], ◌∷◌, ◌++◌, append_assoc, append-nil, rules}, specs.List.{AllByRecursion, flat_map}}, dgt_message.specs.Content.{Content}}
+use Rattle.{dgt_message.specs.{Content.{IsMessage}, Encoding.{encoding}}, dgt_decode.specs.{Grammar.{Placed, cut_of, events, shifted, unfinished_message}, Laws.{EncodingIsRead}}}
 use Rattle.{dgt_decode.specs.Laws.{EventsAppend, UnfinishedAppend}, dgt_host.specs.Confirmed.{StretchIsOne, message_in, messages}}
 
 pub messages_append : (xs ys : List Placed) → messages (xs ++ ys) ≡ messages xs ++ messages ys
@@ -43,10 +43,6 @@ module _ (read : EncodingIsRead) (later : EventsAppend) (still : UnfinishedAppen
 
   pub stretch : StretchIsOne
   stretch before after bytes are_before are_after =
-      let first : List ℕ = flat_map encoding before in
-      let whole : messages (events first) ≡ before = many_more [] before are_before
-      ∙ ap (λ (m : List Content). m ++ before) nothing_said.1 in
-      many_more (first ++ bytes) after are_after
-      ∙ ap (λ (m : List Content). m ++ after)
-      (by_themselves first bytes (ends [] before nothing_said.0 are_before)
-      ∙ ap (λ (m : List Content). m ++ messages (events bytes)) whole)
+      let nothing_left = ends [] before nothing_said.0 are_before in
+      let none = nothing_said.1 in
+      search (rules, many_more, by_themselves, many_more [] before are_before)

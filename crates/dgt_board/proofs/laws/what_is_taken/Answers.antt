@@ -1,5 +1,4 @@
-use Rattle.std.proofs.Common.{refl}
-use Rattle.dgt_board.proofs.TakingLemmas.{takes_word}
+use Rattle.{std.proofs.Common.{refl}, dgt_board.proofs.TakingLemmas.{takes_word}}
 use Rattle.dgt_board.proofs.laws.what_is_taken.Goals as goal
 
 pub returns-clause-whole : goal.returns-clause-whole
