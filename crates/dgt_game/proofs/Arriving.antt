@@ -1,12 +1,9 @@
 -- On how many squares men arrive in a half-move, and in a line.
-use Rattle.std.{proofs.{Common.{rules, ◌≡◌, ◌∙◌, ℕ, ◌<◌, ◌≤◌, List, [], ◌∷◌, arith, inl, inr, length, refl, subst, sym}, lemmas.Bool.{cases_eq}}, specs.Prelude.{◌≢◌, ◌⊎◌, ◌+◌, ◌/◌, Bool, true}}
-use Rattle.{std.specs.{Prelude.{false, not, ◌&&◌, nat_eq, if◌then◌else◌, slice_set, Option, Some, None}}, dgt_values.proofs.PieceCodes.{same_code}}
-use Rattle.{dgt_values.specs.{declared.pieces.Piece.{Piece, TheVariants.{Empty}}, Board.{piece_code}}, dgt_chess.specs.declared.{state.{Move.{Move}, State.{State}}, pieces.Colour.{Colour}}}
-use Rattle.dgt_chess.specs.{declared.pieces.Man.{Man, TheVariants.{Pawn, Knight, Bishop, Rook, Queen, King}}, Attacks.{other, piece_at, piece_of}, Rules.{Promotes, board, moved, pieces_after}}
-use Rattle.{dgt_chess.proofs.OneMove.{put}, dgt_game.proofs.Counting.{none, one_if, set_one, triangle}, dgt_game.specs.{Reach.{arrivals, counts, has_arrived}, Lines.{IsLine, IsMove, LeadsTo, NoLine}}}
-
-at_most : (test : Bool) → one_if test ≤ 1
-at_most test = search rules
+use Rattle.std.{proofs.{Common.{rules, ◌≡◌, ◌∙◌, ℕ, ◌<◌, ◌≤◌, List, [], ◌∷◌, arith, inl, inr, length, refl, subst, sym}, lemmas.Bool.{cases_eq}}, specs.Prelude.{◌≢◌, ◌⊎◌, ◌+◌, ◌/◌, Bool, true, false}}
+use Rattle.{std.specs.Prelude.{not, ◌&&◌, nat_eq, if◌then◌else◌, slice_set, Option, Some, None}, dgt_values.{proofs.PieceCodes.{same_code}, specs.declared.pieces.Piece.{Piece, TheVariants.{Empty}}}}
+use Rattle.{dgt_values.specs.Board.{piece_code}, dgt_chess.specs.declared.{state.{Move.{Move}, State.{State}}, pieces.{Colour.{Colour}, Man.{Man, TheVariants.{Pawn, Knight, Bishop, Rook, Queen}}}}}
+use Rattle.dgt_chess.{specs.{declared.pieces.Man.TheVariants.{King}, Attacks.{other, piece_at, piece_of}, Rules.{Promotes, board, moved, pieces_after}}, proofs.OneMove.{put}}
+use Rattle.dgt_game.{proofs.Counting.{none, one_if, set_one, triangle}, specs.{Reach.{arrivals, counts, has_arrived}, Lines.{IsLine, IsMove, LeadsTo, NoLine}}}
 
 stays : (colour : Colour) (piece : Piece) → has_arrived colour piece piece ≡ false
 stays colour piece = grind arith
@@ -59,7 +56,6 @@ moved_one : (colour : Colour) (man : Man) (old : List Piece) (turn : Colour) (a 
     ≤ one_if (counts colour (piece_of turn (put man promotion)))
 moved_one colour man old turn a b promotion =
     let piece = piece_of turn (put man promotion) in
-    let P : List Piece → Type 0 = λ new. arrivals colour old new ≤ one_if (counts colour piece) in
     search (rules, arrives_on, none_arrives)
 
 -- a colour of whose men at most this many are counted if one is put on a square
@@ -88,7 +84,7 @@ after_one : (colour : Colour) (most : ℕ) (man : Man) (state : State) (a b : �
 after_one colour most Pawn state a b promotion puts promotes = search (rules, pawn_one)
 after_one colour most King state a b None puts promotes = search (rules, king_one)
 after_one colour most King state a b (Some new) puts promotes =
-    let no : King ≡ Pawn = (promotes.0.0 refl).0 in absurd (let wrong : ⊥ = cc in wrong)
+    let no : King ≡ Pawn = (promotes.0.0 refl).0 in absurd (cc)
 after_one colour most Knight state a b promotion puts promotes = search (rules, moved_one)
 after_one colour most Bishop state a b promotion puts promotes = search (rules, moved_one)
 after_one colour most Rook state a b promotion puts promotes = search (rules, moved_one)
@@ -96,9 +92,6 @@ after_one colour most Queen state a b promotion puts promotes = search (rules, m
 
 own_puts : (turn : Colour) → Puts turn turn 1
 own_puts turn = search rules
-
-theirs : (turn : Colour) (man : Man) → counts (other turn) (piece_of turn man) ≡ false
-theirs turn man = search rules
 
 their_puts : (turn : Colour) → Puts (other turn) turn 0
 their_puts turn = search rules
@@ -108,8 +101,7 @@ move_one : (colour : Colour) (most : ℕ) (state : State) (one : Move) (next : S
     → arrivals colour (board state) (board next) ≤ most
 unfolding IsMove
 move_one colour most state one next puts (man, legal, after) =
-    let P : List Piece → Type 0 = λ new. arrivals colour (board state) new ≤ most in
-    subst P (sym after.pieces) (search (rules, after_one))
+    rw after.pieces (search (rules, after_one))
 
 -- ---- a line
 
@@ -117,9 +109,6 @@ next_turn : (state : State) (one : Move) (next : State) → IsMove state one nex
     → next.turn ≡ other state.turn
 unfolding IsMove
 next_turn state one next (man, legal, after) = after.turn
-
-twice : (colour : Colour) → other (other colour) ≡ colour
-twice colour = search rules
 
 line_arrivals : (state : State) (moves : List Move) (new : State) → IsLine state moves new
     → (arrivals state.turn (board state) (board new) ≤ (length moves + 1) / 2)

@@ -1,8 +1,8 @@
 -- Steps in turn, and places for them.
-use Rattle.std.proofs.Common.{rules, ◌≡◌, ◌≢◌, ◌⊎◌, ◌<◌, ◌≤◌, ◌+◌, ◌++◌, ◌∷◌, refl, sym, ap, subst, inl, inr, arith, ℕ, zero, suc, length, drop, List, [], Option, Some, None, unwrap_or}
-use Rattle.{std.{proofs.{Common.{slice_index_or}, lemmas.{Grind.{common_steps}, List.{length-map}}}, specs.Prelude.{⊤, MatchOption, slice_get}}, dgt_values.specs.declared.pieces.Piece.{Piece}}
-use Rattle.dgt_game.{specs.{declared.node.{Node.{Node}, Place.{Place}, Step.{Step}}, Memory.{By, Chain, Grows, IsBefore, IsRooted, IsSeen, Links, step_at, steps, tip}}, proofs.Told.{links_any}}
-use Rattle.dgt_game.proofs.Told.{links_moved}
+use Rattle.std.proofs.Common.{rules, ◌≡◌, ◌∙◌, ◌≢◌, ◌⊎◌, ◌<◌, ◌≤◌, ◌+◌, ◌++◌, ◌∷◌, refl, sym, ap, subst, inl, inr, arith, ℕ, zero, suc, length, drop, List, [], Option, Some, None, unwrap_or}
+use Rattle.std.{proofs.{Common.{slice_index_or}, lemmas.{Grind.{common_steps}, List.{length-map}, Option.{slice_get-map, slice_get_within}}}, specs.Prelude.{⊤, MatchOption, slice_get}}
+use Rattle.{dgt_values.specs.declared.pieces.Piece.{Piece}, dgt_game.specs.{declared.node.{Node.{Node}, Place.{Place}, Step.{Step}}, Memory.{Chain, Grows, IsBefore, IsRooted, IsSeen, Links, step_at}}}
+use Rattle.dgt_game.{specs.Memory.{steps, tip}, proofs.Told.{links_after, links_any, links_moved}}
 
 abbrev pub moved : Step → Place → Step
 moved step place = record {
@@ -37,41 +37,29 @@ tip_joined before (next ∷ first) path step h = tip_joined (Some next) first pa
 
 pub get_step : (nodes : List Node) (k : ℕ) (node : Node) → slice_get nodes k ≡ Some node
     → slice_get (steps nodes) k ≡ Some node.step
-get_step [] k node e = absurd (subst (λ (o : Option Node). MatchOption o ⊤ (λ _. ⊥)) e tt)
-get_step (first ∷ nodes) zero node e = ap (λ (o : Option Node). Some (unwrap_or o first).step) e
-get_step (first ∷ nodes) (suc k) node e = get_step nodes k node e
+get_step nodes k node e = search (rules, slice_get-map)
 
--- a step stands after another, wherever that is
-links_after : (first step : Step) (place : Place) → Links (Some first) step
-    → Links (Some (moved first place)) step
-unfolding Links
-links_after first step place h = elim h [
-  | inl begun ↦ inl begun
-  | inr found ↦
-      let e : found.0 ≡ first = ap (λ (o : Option Step). unwrap_or o first) (sym found.1) in
-      inr (
-        moved first place,
-        refl,
-        subst (λ (s : Step). s.is_turned ≡ step.is_turned) e found.2,
-        subst (λ (s : Step). By s.state step.way step.state) e found.3,
-      )
-]
+pub same_some : {X : Type 0} (o : Option X) (a b : X) → o ≡ Some a → o ≡ Some b → a ≡ b
+same_some o a b e f = ap (λ (p : Option _). unwrap_or p a) (sym e ∙ f)
+
+pub last_item : {X : Type 0} (old : List X) (item : X) (k : ℕ) → length old ≡ k
+    → slice_get (old ++ item ∷ []) k ≡ Some item
+last_item [] item k e = ap (λ (n : ℕ). slice_get (item ∷ []) n) (sym e)
+last_item (first ∷ old) item zero e = absurd (omega arith)
+last_item (first ∷ old) item (suc k) e = last_item old item k (omega arith)
 
 chain_after : (shown : List (List Piece)) (first : Step) (place : Place) (path : List Step)
     → Chain shown (Some first) path → Chain shown (Some (moved first place)) path
+unfolding Links
 chain_after shown first place [] h = tt
-chain_after shown first place (step ∷ path) h = (links_after first step place h.0, h.1, h.2)
+chain_after shown first place (step ∷ path) h =
+    (links_after first step place step.parent h.0, h.1, h.2)
 
 tip_after : (first step : Step) (place : Place) (path : List Step)
     → Links (tip (Some first) path) step → Links (tip (Some (moved first place)) path) step
-tip_after first step place [] h = links_after first step place h
+unfolding Links
+tip_after first step place [] h = links_after first step place step.parent h
 tip_after first step place (next ∷ path) h = h
-
-pub last_at : (old : List Step) (step : Step) (k : ℕ) → length old ≡ k
-    → slice_get (old ++ step ∷ []) k ≡ Some step
-last_at [] step k e = ap (λ (n : ℕ). slice_get (step ∷ []) n) (sym e)
-last_at (first ∷ old) step zero e = absurd (omega arith)
-last_at (first ∷ old) step (suc k) e = last_at old step k (omega arith)
 
 -- what is at an index stays there
 stays_at : (old : List Step) (new : Step) (k : ℕ) (step : Step) → Links (slice_get old k) step
@@ -118,12 +106,6 @@ pub is_inside : (k len at here : ℕ) → (at ≡ 0 → Place.Seen here ≡ Plac
 unfolding seen_index
 is_inside k len at here first later within = search rules
 
-pub last_item : {X : Type 0} (old : List X) (item : X) (k : ℕ) → length old ≡ k
-    → slice_get (old ++ item ∷ []) k ≡ Some item
-last_item [] item k e = ap (λ (n : ℕ). slice_get (item ∷ []) n) (sym e)
-last_item (first ∷ old) item zero e = absurd (omega arith)
-last_item (first ∷ old) item (suc k) e = last_item old item k (omega arith)
-
 -- a place of the line, or none, was not seen since
 pub not_seen : (lines : ℕ) (place : Place) → IsBefore lines 0 place → (j : ℕ) → place ≢ Place.Seen j
 not_seen lines place before j e = search rules
@@ -141,27 +123,12 @@ pub steps_push : (nodes : List Node) (node : Node)
 steps_push [] node = refl
 steps_push (first ∷ nodes) node = ap (λ (xs : List Step). first.step ∷ xs) (steps_push nodes node)
 
--- a node that is read
-pub node_at : (nodes : List Node) (k : ℕ) (node : Node) → k < length nodes
-    → node ≡ slice_index_or nodes k node → slice_get nodes k ≡ Some node
-node_at [] k node l e = absurd (omega arith)
-node_at (first ∷ nodes) zero node l e = ap (λ (n : Node). Some n) (sym e)
-node_at (first ∷ nodes) (suc k) node l e = node_at nodes k node (omega arith) e
-
 -- what leads to a step leads to the one before it, too
 pub path_first : (shown : List (List Piece)) (kept seen path : List Step) (k : ℕ) (step : Step)
     → slice_get seen k ≡ Some step → Grows shown kept seen → Chain shown (slice_get seen k) path
     → Chain shown (step_at kept seen step.parent) (step ∷ path)
-path_first shown kept seen path k step at grows chain =
-    let new = grows k step at in
-    (new.0, new.1, subst (λ (o : Option Step). Chain shown o path) at chain)
-
-drops : (nodes : List Node) (k : ℕ) (node : Node) → k < length nodes
-    → node ≡ slice_index_or nodes k node
-    → steps (drop k nodes) ≡ node.step ∷ steps (drop (suc k) nodes)
-drops [] k node l e = absurd (omega arith)
-drops (first ∷ nodes) zero node l e = ap (λ (n : Node). n.step ∷ steps nodes) (sym e)
-drops (first ∷ nodes) (suc k) node l e = drops nodes k node (omega arith) e
+path_first shown kept seen path k step is grows chain =
+    let new = grows k step is in (new.0, new.1, rw is at chain)
 
 pub steps_drop : (nodes : List Node) (k : ℕ) (node : Node) → k < length nodes
     → node ≡ slice_index_or nodes k node
@@ -175,12 +142,12 @@ pub next_chained : (shown : List (List Piece)) (kept old rest : List Step) (step
     → Grows shown kept (old ++ moved step place ∷ [])
     × Chain shown (step_at kept (old ++ moved step place ∷ []) (Place.Seen k)) rest
 next_chained shown kept old rest step place k e grows chain =
-    search (rules, grows_push, links_moved, last_at, chain_after)
+    search (rules, grows_push, links_moved, last_item, chain_after)
 
 pub next_tip : (kept old rest : List Step) (first step : Step) (place : Place) (k : ℕ)
     → length old ≡ k → Links (tip (Some first) rest) step
     → Links (tip (step_at kept (old ++ moved first place ∷ []) (Place.Seen k)) rest) step
-next_tip kept old rest first step place k e h = search (rules, last_at, tip_after)
+next_tip kept old rest first step place k e h = search (rules, last_item, tip_after)
 
 -- the place of what was not seen since
 pub place_at : (kept seen : List Step) (place : Place) → ((k : ℕ) → place ≢ Place.Seen k)
@@ -189,18 +156,12 @@ place_at kept seen place k = search rules
 
 pub some_at : {X : Type 0} (items : List X) (k : ℕ) → k < length items → slice_get items k ≢ None
 some_at [] k l e = omega (arith, l)
-some_at (first ∷ items) zero l e = absurd (let wrong : ⊥ = cc in wrong)
+some_at (first ∷ items) zero l e = absurd (cc)
 some_at (first ∷ items) (suc k) l e = some_at items k (omega (arith, l)) e
-
-pub below_some : {X : Type 0} (items : List X) (k : ℕ) (item : X) → slice_get items k ≡ Some item
-    → k < length items
-below_some [] k item e = absurd (let wrong : ⊥ = cc in wrong)
-below_some (first ∷ items) zero item e = omega arith
-below_some (first ∷ items) (suc k) item e = let l = below_some items k item e in omega (arith, l)
 
 pub steps_some : (nodes : List Node) → nodes ≢ [] → steps nodes ≢ []
 steps_some [] some e = some refl
-steps_some (first ∷ nodes) some e = absurd (let wrong : ⊥ = cc in wrong)
+steps_some (first ∷ nodes) some e = absurd (cc)
 
 -- there is a last step if there is one at all
 pub tip_there : (before : Option Step) (path : List Step) → (before ≢ None) ⊎ (path ≢ [])
@@ -216,7 +177,7 @@ steps_length nodes = length-map nodes (λ (n : Node). n.step)
 pub found_before : (line seen : List Step) (place : Place) (step : Step)
     → ((k : ℕ) → place ≡ Place.Line k → k ≤ 4) → step_at line seen place ≡ Some step
     → IsBefore (length line) (length seen) place
-found_before line seen place step k e = search (rules, below_some)
+found_before line seen place step k e = search (rules, slice_get_within)
 
 pub some_below : {X : Type 0} (items : List X) (k : ℕ) → k < length items → (item : X)
     × (slice_get items k ≡ Some item)

@@ -1,13 +1,10 @@
 -- How many men leave their squares in a half-move, and in a line.
 use Rattle.std.{proofs.{Common.{rules, ◌≡◌, ◌∙◌, ℕ, ◌<◌, ◌≤◌, List, [], ◌∷◌, ap, arith, length, refl, subst, sym}, Math.Logic.{∥∥₁_elim}}, specs.Prelude.{◌≢◌, ◌+◌, Bool, true, false, not, ◌&&◌}}
-use Rattle.std.specs.Prelude.{nat_eq, if◌then◌else◌, slice_set, Option, Some, None}
-use Rattle.{std.specs.Int.{abs_diff}, dgt_values.specs.{declared.pieces.Piece.{Piece, TheVariants.{Empty}}, Board.{square_number}}, dgt_chess.specs.declared.state.{Move.{Move}, State.{State}}}
-use Rattle.dgt_chess.specs.declared.pieces.Colour.{Colour}
-use Rattle.dgt_chess.specs.{declared.pieces.Man.{Man, TheVariants.{Pawn, Knight, Bishop, Rook, Queen, King}}, Possible.{HasNoStray}, Attacks.{file, piece_at, piece_of, row}, Rules.{LegalBy, Moves}}
-use Rattle.dgt_chess.specs.Rules.{PawnMoves, Promotes, TakesPassing, beside, board, first_row, is_free, moved, passed, pieces_after}
-use Rattle.dgt_chess.proofs.{OneMove.{castles, far, pawn_passes, put, rook_from, rook_to, Castled}, Unique.{same_man}}
-use Rattle.dgt_game.{specs.{declared.reach.Kind.{Kind}, Reach.{departures, has_left, is_of, IsBack}, Lines.{IsLine, IsMove, LeadsTo, NoLine}}, proofs.Counting.{none, one_if, set_one, triangle}}
-use Rattle.dgt_game.proofs.Leaving.{effect}
+use Rattle.{std.specs.{Prelude.{nat_eq, if◌then◌else◌, slice_set, Option, Some, None}, Int.{abs_diff}}, dgt_values.specs.{declared.pieces.Piece.{Piece, TheVariants.{Empty}}, Board.{square_number}}}
+use Rattle.dgt_chess.specs.{declared.{state.{Move.{Move}, State.{State}}, pieces.{Colour.{Colour}, Man.{Man, TheVariants.{Pawn, Knight, Bishop, Rook, Queen, King}}}}, Possible.{HasNoStray}}
+use Rattle.dgt_chess.specs.{Attacks.{file, piece_at, piece_of, row}, Rules.{LegalBy, Moves, PawnMoves, Promotes, TakesPassing, beside, board, first_row, is_free, moved, passed, pieces_after}}
+use Rattle.{dgt_chess.proofs.{OneMove.{castles, far, pawn_passes, put, rook_from, rook_to, Castled}, Unique.{same_man}}, dgt_game.specs.{declared.reach.Kind.{Kind}, Reach.{departures, has_left}}}
+use Rattle.dgt_game.{specs.{Reach.{is_of, IsBack}, Lines.{IsLine, IsMove, LeadsTo, NoLine}}, proofs.{Counting.{none, one_if, set_one, triangle}, Leaving.{effect}}}
 
 -- ---- on two boards
 
@@ -68,8 +65,7 @@ king_one kind state a b true own castled promotes =
     let rook = piece_of state.turn Rook in
     let P : Piece → Piece → Type 0 = λ p q. one_if (is_of kind p) + one_if (is_of kind q) ≤ 1 in
     let most : P (piece_at old a) (piece_at old (rook_from a b)) =
-    subst (λ q. P (piece_at old a) q) (sym facts.rook)
-    (subst (λ p. P p rook) (sym own) (king_and_rook kind state.turn)) in
+    rw facts.rook (rw own (king_and_rook kind state.turn)) in
     omega (
       arith,
       most,
@@ -97,7 +93,7 @@ after_one kind King state a b None legal =
     king_one kind state a b (nat_eq (abs_diff (file a) (file b)) 2) legal.own
     (castled_by state a b legal.moves) legal.promotes
 after_one kind King state a b (Some new) legal =
-    let no : King ≡ Pawn = (legal.promotes.0.0 refl).0 in absurd (let wrong : ⊥ = cc in wrong)
+    let no : King ≡ Pawn = (legal.promotes.0.0 refl).0 in absurd (cc)
 after_one kind Knight state a b promotion legal =
     plain_one kind state Knight a b promotion legal.own legal.promotes
 after_one kind Bishop state a b promotion legal =
@@ -111,8 +107,7 @@ move_one : (kind : Kind) (state : State) (one : Move) (next : State) → IsMove 
     → departures kind (board state) (board next) ≤ 1
 unfolding IsMove
 move_one kind state one next (man, legal, after) =
-    let P : List Piece → Type 0 = λ new. departures kind (board state) new ≤ 1 in
-    subst P (sym after.pieces) (after_one kind man state (square_number one.from)
+    rw after.pieces (after_one kind man state (square_number one.from)
     (square_number one.to) one.promotion legal)
 
 -- ---- a line

@@ -20,7 +20,7 @@ found_by_search old new reads still done = (
         (is, live, fits, lines) in
         reads view before.0 before.1 before.2 before.3 nowhere
   ],
-  λ nowhere waits. absurd (let wrong : ⊥ = cc in wrong),
+  λ nowhere waits. absurd (cc),
 )
 
 pub shown_then : (a b c : Recogniser) → StaysShown a b → StaysShown b c → StaysShown a c

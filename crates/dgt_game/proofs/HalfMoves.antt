@@ -1,7 +1,7 @@
 -- The half-move that leads to a picture.
-use Rattle.{std.{proofs.Common.{rules, ◌≡◌, ◌∙◌, ℕ, ◌<◌, List, [], ◌∷◌, ap, arith, length, refl, subst, sym}, specs.Prelude.{Option}}, dgt_values.specs.declared.pieces.Piece.{Piece}}
-use Rattle.{dgt_values.specs.Board.{square_number}, dgt_chess.specs.{declared.{pieces.Man.{Man}, state.{Move.{Move}, State.{State}}}, Rules.{IsAfter, Legal, LegalBy, Reaches, board}}}
-use Rattle.{dgt_chess.{specs.Rules.{OneMoveAPicture}, proofs.{Same.{same_move}, Unique.{same_man}}}, dgt_game.specs.Lines.{IsMove, IsOnly, LeadsTo, NoLine}}
+use Rattle.{std.{proofs.Common.{rules, ◌≡◌, ◌∙◌, ℕ, ◌<◌, List, [], ◌∷◌, ap, arith, length, refl, sym}, specs.Prelude.{Option}}, dgt_values.specs.{declared.pieces.Piece.{Piece}, Board.{square_number}}}
+use Rattle.dgt_chess.{specs.{declared.{pieces.Man.{Man}, state.{Move.{Move}, State.{State}}}, Rules.{IsAfter, Legal, LegalBy, Reaches, board, OneMoveAPicture}}, proofs.Same.{same_move}}
+use Rattle.{dgt_chess.proofs.Unique.{same_man}, dgt_game.specs.Lines.{IsMove, IsOnly, LeadsTo, NoLine}}
 
 reaches : (state : State) (one : Move) (new : State) (pieces : List Piece) → IsMove state one new
     → board new ≡ pieces
@@ -44,8 +44,7 @@ single : (state : State) (moves : List Move) (pieces : List Piece) → length mo
 unfolding LeadsTo
 single state [] pieces e leads = absurd (omega (arith, e))
 single state (one ∷ []) pieces e (new, (next, moves, same), board_same) =
-    let B : State → Type 0 = λ s. board s ≡ pieces in
-    (one, refl, reaches state one next pieces moves (subst B (sym same) board_same))
+    (one, refl, reaches state one next pieces moves (rw same board_same))
 single state (one ∷ other ∷ moves) pieces e leads = absurd (omega (arith, e))
 
 pub none : (state : State) (pieces : List Piece)

@@ -1,5 +1,5 @@
 -- Pieces in hands.
-use Rattle.{std.proofs.{Common.{rules, ◌≡◌, ◌⊎◌, refl, sym, subst, ℕ, List, Some, slice_get, Contains}, lemmas.Option.{get_or_from_slice_get}}, dgt_values.specs.declared.pieces.Piece.{Piece}}
+use Rattle.{std.proofs.{Common.{rules, ◌≡◌, ◌⊎◌, refl, ℕ, List, Some, slice_get, Contains}, lemmas.Option.{get_or_from_slice_get}}, dgt_values.specs.declared.pieces.Piece.{Piece}}
 use Rattle.{dgt_chess.specs.{declared.{pieces.Man.{Man}, state.{Move.{Move}, State.{State}}}, Attacks.{piece_at, piece_of}, Rules.{board}}, dgt_game.specs.declared.node.{Place.{Place}, Step.{Step}}}
 use Rattle.dgt_game.{specs.{declared.node.Way.{Way}, Lines.{IsMove}, Told.{IsHeld, WasShown, as_shown}, Memory.{IsSeen, Links, step_at}}, proofs.Links.{links}}
 
@@ -31,7 +31,7 @@ pub held : (shown : List (List Piece)) (line seen : List Step) (from : Step) (pl
     → Links (step_at line seen step.parent) step × IsSeen shown step
 unfolding WasShown
 held shown line seen from place one state step picture pieces at e move is_shown same is_held =
-    subst (λ (s : Step). Links (step_at line seen s.parent) s × IsSeen shown s) (sym e) (
+    rw e (
       links (step_at line seen place) from (record {
         state = state;
         is_turned = from.is_turned;

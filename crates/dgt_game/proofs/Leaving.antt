@@ -2,8 +2,8 @@
 use Rattle.std.{proofs.{Common.{rules, ◌≡◌, ◌∙◌, ℕ, ◌≤◌, List, [], ◌∷◌, ap, arith, inl, inr, subst, sym}, lemmas.Bool.{cases_eq}}, specs.Prelude.{◌≢◌, suc, Option, Some}}
 use Rattle.{dgt_values.specs.{declared.pieces.Piece.{Piece, TheVariants.{Empty}}, Board.{square_number}}, dgt_chess.specs.declared.{state.{Move.{Move}, State.{State}}, pieces.Colour.{Colour}}}
 use Rattle.dgt_chess.{specs.{declared.pieces.Man.{Man, TheVariants.{Pawn, Rook}}, Attacks.{other, piece_at, piece_of, IsFree}, Rules.{CanGo, Legal, board}}, proofs.OneMove.{effect_of, put}}
-use Rattle.dgt_chess.proofs.Unique.{Effect}
-use Rattle.{dgt_chess.proofs.Unique.{not_free, not_theirs, same_kind}, dgt_game.{proofs.HalfMoves.{made_by}, specs.{declared.ways.Ways.TheVariants.{Nothing}, Lines.{IsMove}, Ways.{AreWaysBy, IsWay}}}}
+use Rattle.{dgt_chess.proofs.Unique.{Effect, not_free, not_theirs, same_kind}, dgt_game.{proofs.HalfMoves.{made_by}, specs.{declared.ways.Ways.TheVariants.{Nothing}, Lines.{IsMove}}}}
+use Rattle.dgt_game.specs.Ways.{AreWaysBy, IsWay}
 
 was_pawn : (man : Man) (promotion : Option Man) → promotion ≢ Some Pawn → put man promotion ≡ Pawn
     → man ≡ Pawn
@@ -16,12 +16,10 @@ pub effect : (state : State) (one : Move) (next : State) → IsMove state one ne
 unfolding IsMove
 effect state one next (man, legal, after) =
     let from = square_number one.from in
-    let to = square_number one.to in
-    let P : List Piece → Type 0 = λ new.
-    Effect (board state) new state.turn from to (put man one.promotion) in (
+    let to = square_number one.to in (
       put man one.promotion,
       after.turn,
-      subst P (sym after.pieces) (search (rules, effect_of)),
+      rw after.pieces (search (rules, effect_of)),
       λ e. legal.own ∙ ap (piece_of state.turn) (was_pawn man one.promotion legal.promotes.1 e),
     )
 
@@ -34,8 +32,7 @@ none_comes old new turn turn' a b at man theirs turns effect free here = search 
 -- If at most one half-move follows, the piece on the first square changes.
 changes : (rest : ℕ) (state : State) (pieces : List Piece) (one : Move) (moves : List Move)
     (new : State) → rest ≤ 1 → IsWay (suc rest) state pieces (one ∷ moves) new
-    → piece_at (board state) (square_number one.from)
-    ≢ piece_at pieces (square_number one.from)
+    → piece_at (board state) (square_number one.from) ≢ piece_at pieces (square_number one.from)
 changes rest state pieces one [] new small (long, (next, move, line), same) e =
     search (rules, effect)
 changes rest state pieces one (answer ∷ []) new small
@@ -56,8 +53,7 @@ pub kept : (rest : ℕ) (state : State) (pieces : List Piece) (at : ℕ) → res
     → AreWaysBy (λ one. square_number one.from ≡ at) (suc rest) state pieces Nothing
 kept rest state pieces at small e [] new way begins = begins
 kept rest state pieces at small e (one ∷ moves) new way begins =
-    let P : ℕ → Type 0 = λ n. piece_at (board state) n ≡ piece_at pieces n in
-    changes rest state pieces one moves new small way (subst P (sym begins) e)
+    changes rest state pieces one moves new small way (rw begins e)
 
 no_man_left : (rest : ℕ) (state : State) (pieces : List Piece) (one : Move) (moves : List Move)
     (new : State) → IsWay (suc rest) state pieces (one ∷ moves) new
@@ -83,8 +79,7 @@ no_goal halves state pieces from to none (one ∷ moves) new (long, (next, move,
     let P : ℕ → ℕ → Type 0 = λ m n. Legal state m n one.promotion in
     none (
       one.promotion,
-      subst (λ n. P from n) b (subst (λ m. P m (square_number one.to)) a
-          (made_by state one next move)),
+      subst (λ n. P from n) b (rw a at (made_by state one next move)),
     )
 
 -- A move of the opponent empties no square of a man, but for a pawn captured in passing.
@@ -136,6 +131,5 @@ pub vacant : (rest : ℕ) (state : State) (pieces : List Piece) (man : Man) (fro
     state pieces Nothing
 vacant rest state pieces man from to small own officer free [] new way begins = begins
 vacant rest state pieces man from to small own officer free (one ∷ moves) new way (a, b) =
-    let F : ℕ → Type 0 = IsFree pieces in
-    let pawn = was_taken rest state pieces one moves new small way (subst F (sym b) free) in
+    let pawn = was_taken rest state pieces one moves new small way (rw b free) in
     search rules

@@ -1,5 +1,5 @@
 -- Steps that follow each other.
-use Rattle.std.proofs.{Common.{rules, ◌≡◌, ◌≤◌, ◌∙◌, refl, sym, ap, arith, subst, inl, inr, ℕ, zero, suc, length, Bool, List, [], ◌∷◌, Option, Some, slice_get}, lemmas.Grind.{common_steps}}
+use Rattle.std.proofs.{Common.{rules, ◌≡◌, ◌≤◌, ◌∙◌, refl, sym, ap, arith, inl, inr, ℕ, zero, suc, length, Bool, List, [], ◌∷◌, Option, Some, slice_get}, lemmas.Grind.{common_steps}}
 use Rattle.{std.{specs.Prelude.{Contains, IfSome, ◌≢◌, ◌⊎◌}, proofs.lemmas.List.{reverse-reverse}}, dgt_values.specs.declared.pieces.Piece.{Piece}, dgt_chess.specs.declared.state.State.{State}}
 use Rattle.{dgt_chess.specs.{Rules.{IsStart, board}, declared.state.Move.{Move}}, dgt_game.specs.declared.{node.{Node.{Node}, Step.{Step}, Way.{Way}, Place.{Place}}, reading.Reading.{Reading}}}
 use Rattle.dgt_game.specs.{declared.{memory.Memory.{Memory}, ways.Ways.{Ways}}, Lines.{IsLine, moves_of}, Ways.{AreWays}, Told.{Told, IsShown, Joins, WasShown, as_shown, told_pieces}, Memory.{By}}
@@ -24,9 +24,7 @@ pub fits : (line seen : List Step) (place : Place) (from : Step) (way : Way) (st
     → step ≡ record { state = state; is_turned = from.is_turned; way = way; parent = place }
     → By from.state way state → board state ≡ as_shown from.is_turned shown
     → Links (step_at line seen step.parent) step × (told_pieces (told_of step) ≡ shown)
-fits line seen place from way state step shown at e by same =
-    subst (λ (s : Step). Links (step_at line seen s.parent) s
-    × (told_pieces (told_of s) ≡ shown)) (sym e) (
+fits line seen place from way state step shown at e by same = rw e (
     grind (arith, common_steps, links)
     )
 
@@ -48,14 +46,12 @@ pub follows : (from : Step) (place : Place) (way : Way) (state : State) (step : 
     Piece) → step ≡ record { state = state; is_turned = from.is_turned; way = way; parent = place }
     → By from.state way state → board state ≡ as_shown from.is_turned shown
     → (step.parent ≡ place) × Links (Some from) step × (told_pieces (told_of step) ≡ shown)
-follows from place way state step shown e by same =
-    subst (λ (s : Step). (s.parent ≡ place) × Links (Some from) s
-    × (told_pieces (told_of s) ≡ shown)) (sym e) (
+follows from place way state step shown e by same = rw e (
     search (rules, links, turned_back)
     )
 
 pub not_begun : (state new : State) (way : Way) → By state way new → way ≢ Way.Begun
-not_begun state new way by e = subst (λ (w : Way). By state w new) e by
+not_begun state new way by e = rw e at by
 
 -- several lines lead to the picture
 pub several : (halves : ℕ) (state new : State) (pieces : List Piece)
@@ -71,7 +67,7 @@ either P result first second h a b = search rules
 pub was_shown : (shown : List (List Piece)) (told : Told) (pieces : List Piece)
     → Contains shown pieces → told_pieces told ≡ pieces → WasShown shown told
 unfolding WasShown
-was_shown shown told pieces seen same = inl (subst (Contains shown) (sym same) seen)
+was_shown shown told pieces seen same = inl (rw same seen)
 
 -- the state in which games begin may begin a line unseen
 pub starts : (shown : List (List Piece)) (step : Step) → step.way ≡ Way.Begun
@@ -89,7 +85,7 @@ arrived shown step some seen = search rules
 kept_seen : (shown : List (List Piece)) (steps : List Step) (line : List Told) (k : ℕ) (step :
     Step) → AreLast steps line → IsShown shown line → slice_get steps k ≡ Some step
     → IsSeen shown step
-kept_seen shown [] line k step kept seen e = absurd (let wrong : ⊥ = cc in wrong)
+kept_seen shown [] line k step kept seen e = absurd (cc)
 kept_seen shown (other ∷ steps) [] k step kept seen e = absurd kept
 kept_seen shown (other ∷ steps) (told ∷ line) zero step kept seen e = search rules
 kept_seen shown (other ∷ steps) (told ∷ line) (suc k) step kept seen e =
@@ -100,7 +96,7 @@ pub seen_at : (shown : List (List Piece)) (line : List Told) (self : Memory) (pl
     → step_at (steps self.line.items) (steps self.seen.items) place ≡ Some step → IsSeen shown step
 seen_at shown line self (Place.Line k) step holds e = search (rules, kept_seen)
 seen_at shown line self (Place.Seen k) step holds e = (holds.grows k step e).1
-seen_at shown line self Place.Nowhere step holds e = absurd (let wrong : ⊥ = cc in wrong)
+seen_at shown line self Place.Nowhere step holds e = absurd (cc)
 
 -- a node that fits is so
 pub reads : (shown : List (List Piece)) (self : Memory) (pieces : List Piece) (node : Node)
@@ -156,14 +152,7 @@ pub fits_gap : (line seen : List Step) (pieces : List Piece) (old new : Step) (c
     × (told_pieces (told_of old) ≡ pieces)) × (old.way ≢ Way.Begun)
     → (Links (step_at line seen new.parent) new × (told_pieces (told_of new) ≡ pieces))
     × (new.way ≢ Way.Begun)
-fits_gap line seen pieces old new count same e ((link, shown), some) =
-    let P : ℕ → Type 0 = λ n. Links (step_at line seen old.parent) (record {
-      state = old.state;
-      is_turned = old.is_turned;
-      way = Way.Gap n;
-      parent = old.parent;
-    }) in
-    search (rules, links_gap)
+fits_gap line seen pieces old new count same e ((link, shown), some) = search (rules, links_gap)
 
 -- a step that begins a line and was shown
 pub is_root : (shown : List (List Piece)) (state : State) (turned : Bool) (pieces : List Piece)
@@ -194,7 +183,7 @@ started shown line seen start turned pieces root step e is_start same by here is
     let begun : root.way ≡ Way.Begun = ap (λ (s : Step). s.way) e in
     let turns : step.is_turned ≡ turned = same ∙ ap (λ (s : Step). s.is_turned) e in (
       begins (step_at line seen root.parent) root begun,
-      starts shown root begun (subst IsStart (sym (ap (λ (s : Step). s.state) e)) is_start),
+      starts shown root begun (rw (ap (λ (s : Step). s.state) e) is_start),
       links (Some root) root step refl (sym same) by,
       search (rules, was_shown, turned_back),
     )

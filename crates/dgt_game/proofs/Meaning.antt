@@ -11,18 +11,16 @@ rest_joined told (before ∷ line) h = h.2
 joined_on : (line new : List Told) (event : Event) → AreJoined line → Leads line event new
     → AreJoined new
 unfolding Joins
-joined_on line new (Event.Begun state is_turned) h leads = subst AreJoined (sym leads) refl
+joined_on line new (Event.Begun state is_turned) h leads = rw leads refl
 joined_on (last ∷ line) new (Event.Made one) h leads =
-    subst AreJoined (sym leads.2) ((one ∷ [], refl, (leads.0, leads.1, refl)), refl, h)
+    rw leads.2 ((one ∷ [], refl, (leads.0, leads.1, refl)), refl, h)
 joined_on (last ∷ line) new (Event.Unseen moves) h leads =
-    subst AreJoined (sym leads.3) ((moves_of moves, refl, leads.1), refl, h)
-joined_on (last ∷ line) new (Event.Gap state count) h leads =
-    subst AreJoined (sym leads.1) (leads.0, refl, h)
-joined_on (last ∷ line) new (Event.Back count) h leads =
-    subst AreJoined (sym leads.2) (rest_joined last line h)
-joined_on line new (Event.Ended result) h leads = subst AreJoined (sym leads) h
-joined_on line new (Event.Lost squares) h leads = subst AreJoined (sym leads) h
-joined_on line new Event.Found h leads = subst AreJoined (sym leads) h
+    rw leads.3 ((moves_of moves, refl, leads.1), refl, h)
+joined_on (last ∷ line) new (Event.Gap state count) h leads = rw leads.1 (leads.0, refl, h)
+joined_on (last ∷ line) new (Event.Back count) h leads = rw leads.2 (rest_joined last line h)
+joined_on line new (Event.Ended result) h leads = rw leads h
+joined_on line new (Event.Lost squares) h leads = rw leads h
+joined_on line new Event.Found h leads = rw leads h
 joined_on [] new (Event.Made one) h leads = absurd leads
 joined_on [] new (Event.Unseen moves) h leads = absurd leads
 joined_on [] new (Event.Gap state count) h leads = absurd leads
@@ -30,7 +28,7 @@ joined_on [] new (Event.Back count) h leads = absurd leads
 
 joined_after : (events : List Event) (line new : List Told) → AreJoined line
     → IsLegalTold line events new → AreJoined new
-joined_after [] line new h legal = subst AreJoined (sym legal) h
+joined_after [] line new h legal = rw legal h
 joined_after (event ∷ events) line new h legal =
     joined_after events legal.0 new (joined_on line legal.0 event h legal.1) legal.2
 
@@ -39,7 +37,7 @@ legal_is_joined events line legal = joined_after events [] line tt legal
 
 line_append : (a b c : State) (moves more : List Move) → IsLine a moves b → IsLine b more c
     → IsLine a (moves ++ more) c
-line_append a b c [] more first next = subst (λ (s : State). IsLine s more c) (sym first) next
+line_append a b c [] more first next = rw first next
 line_append a b c (one ∷ moves) more first next =
     (first.0, first.1, line_append first.0 b c moves more first.2 next)
 
@@ -67,7 +65,7 @@ single : (state new : State) (moves : List Move) → length moves ≡ 1 → IsLi
 single state new [] e h = absurd (omega arith)
 single state new (one ∷ moves) e h =
     let same : h.0 ≡ new = no_line h.0 new moves (omega (arith, e)) h.2 in
-    (one, subst (λ (s : State). IsMove state one s) same h.1)
+    (one, rw same at h.1)
 
 pub none_and_one : NoneAndOne
 unfolding Joins IsMove

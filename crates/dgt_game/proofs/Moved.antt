@@ -1,9 +1,9 @@
 -- Men that have moved.
-use Rattle.std.proofs.Common.{rules, ◌≡◌, ◌≢◌, ◌⊎◌, ap, ◌<◌, ◌≤◌, ◌+◌, arith, subst, inl, inr, ℕ, zero, suc, List, [], ◌∷◌, ◌++◌, length, slice_index_or, unwrap_or, Option, Some, None, slice_get}
-use Rattle.std.{specs.Prelude.{IsSome, MatchOption}, proofs.lemmas.{Bool.{cases_lt}, Option.{get_or_from_slice_get, slice_get-get_or, slice_get_within}, List.{length-map}}}
-use Rattle.{dgt_values.specs.{declared.pieces.Piece.{Piece}, Board.{pieces_of}}, dgt_chess.specs.{declared.{pieces.{Colour.{Colour}, Man.{Man}}, state.State.{State}}, Attacks.{other, piece_at}}}
-use Rattle.{dgt_chess.{specs.{Attacks.{piece_of}, Rules.{board}}}, dgt_game.specs.declared.{node.{Node.{Node}, Origin.{Origin}, Step.{Step}}, view.View.{View}}}
-use Rattle.dgt_game.{specs.{Told.{as_shown}, Memory.{steps}, Reading.{HasLineFrom, HasMoved, MovedAt, origins}}, proofs.Chains.{get_step}}
+use Rattle.std.{proofs.Common.{rules, ◌≡◌, ◌≢◌, ◌⊎◌, below_more, ◌<◌, ◌≤◌, ◌+◌, ℕ, zero, suc, List, [], ◌∷◌, ◌++◌, length, slice_index_or, Option, Some, None, slice_get}, specs.Prelude.{IsSome}}
+use Rattle.{std.{specs.Prelude.{MatchOption}, proofs.lemmas.{Option.{slice_get-get_or, slice_get-map, slice_get_within}, List.{length-map}}}, dgt_values.specs.declared.pieces.Piece.{Piece}}
+use Rattle.{dgt_values.specs.Board.{pieces_of}, dgt_chess.specs.{declared.{pieces.{Colour.{Colour}, Man.{Man}}, state.State.{State}}, Attacks.{other, piece_of}, Rules.{board}}}
+use Rattle.dgt_game.specs.{declared.{node.{Node.{Node}, Origin.{Origin}, Step.{Step}}, view.View.{View}}, Told.{as_shown}, Memory.{steps}, Reading.{HasLineFrom, HasMoved, MovedAt, origins}}
+use Rattle.dgt_game.proofs.{Chains.{get_step}, Planning.{piece_got}}
 
 -- on a square only men of a side have moved
 abbrev pub Keeps : Colour → Piece → Piece → Type 0
@@ -15,29 +15,18 @@ Keeps side old new =
 pub some_man : (found : Option Man) (side : Colour) (piece : Piece)
     → MatchOption found ((man : Man) → piece ≢ piece_of side man) (λ man. piece ≡ piece_of side man)
     → IsSome found → (man : Man) × (piece ≡ piece_of side man)
-some_man None side piece is some = let wrong : ⊥ = cc in absurd wrong
+some_man None side piece is some = absurd (cc)
 some_man (Some man) side piece is some = (man, is)
-
--- then none of the other side has
-kept : (picture : List Piece) (state : State) (side : Colour) (k : ℕ) → side ≡ other state.turn
-    → Keeps side (piece_at (board state) k) (piece_at picture k)
-    → ¬ (MovedAt picture state state.turn k)
-kept picture state side k sides keeps (differs, moved) = search rules
 
 pub kept_more : (picture : List Piece) (state : State) (side : Colour) (n at : ℕ)
     (old new : Piece) → n ≡ at → slice_get picture n ≡ Some new
     → slice_get (board state) n ≡ Some old → side ≡ other state.turn → Keeps side old new
     → ((k : ℕ) → k < at → ¬ (MovedAt picture state state.turn k))
     → (k : ℕ) → k < at + 1 → ¬ (MovedAt picture state state.turn k)
-kept_more picture state side n at old new same is was sides keeps before k small moved =
-    elim (cases_lt k at) [
-      | inl less ↦ before k less moved
-      | inr more ↦
-          let now : k ≡ at = omega (arith, small, more) in
-          let new_is : piece_at picture at ≡ new = get_or_from_slice_get picture at new Piece.Empty
-          (subst (λ (i : ℕ). slice_get picture i ≡ Some new) same is) in
-          search (rules, get_or_from_slice_get)
-    ]
+kept_more picture state side n at old new same is was sides keeps before =
+    let new_is = piece_got picture n at new same is in
+    let old_is = piece_got (board state) n at old same was in
+    below_more (λ k. ¬ (MovedAt picture state state.turn k)) at before (search rules)
 
 -- a man of the side has arrived or has left
 abbrev pub Moves : Colour → Piece → Piece → Type 0
@@ -56,18 +45,10 @@ pub stays_more : (picture : List Piece) (state : State) (side : Colour) (n at : 
     → slice_get (board state) n ≡ Some old → ¬ (Moves side old new)
     → ((k : ℕ) → k < at → ¬ (MovedAt picture state side k))
     → (k : ℕ) → k < at + 1 → ¬ (MovedAt picture state side k)
-stays_more picture state side n at old new same is was stays before k small moved =
-    elim (cases_lt k at) [
-      | inl less ↦ before k less moved
-      | inr more ↦
-          let now : k ≡ at = omega (arith, small, more) in
-          let new_is : piece_at picture at ≡ new = get_or_from_slice_get picture at new Piece.Empty
-          (subst (λ (i : ℕ). slice_get picture i ≡ Some new) same is) in
-          let old_is : piece_at (board state) at ≡ old =
-          get_or_from_slice_get (board state) at old Piece.Empty
-          (subst (λ (i : ℕ). slice_get (board state) i ≡ Some old) same was) in
-          search rules
-    ]
+stays_more picture state side n at old new same is was stays before =
+    let new_is = piece_got picture n at new same is in
+    let old_is = piece_got (board state) n at old same was in
+    below_more (λ k. ¬ (MovedAt picture state side k)) at before (search rules)
 
 pub moved_here : (first second : Step) (seen shown : View) → first ≡ second → seen ≡ shown
     → HasMoved (as_shown first.is_turned (pieces_of seen.shown)) first.state first.state.turn
@@ -76,10 +57,6 @@ moved_here first second seen shown one same moved = search rules
 
 pub none_some : (found : Option Node) → found ≡ None → ¬ (IsSome found)
 none_some found none some = search rules
-
-pub same_view : (found : Option View) (first second : View) → found ≡ Some first
-    → found ≡ Some second → second ≡ first
-same_view found first second one two = cc
 
 -- what holds of none before holds of none up to here
 pub none_more : (P : ℕ → Type 0) (at : ℕ) → ((k : ℕ) → 1 ≤ k → k < at → ¬ (P k)) → ¬ (P at)
@@ -94,9 +71,7 @@ FollowsOne nodes picture =
 
 get_origin : (nodes : List Node) (k : ℕ) (node : Node) → slice_get nodes k ≡ Some node
     → slice_get (origins nodes) k ≡ Some node.origin
-get_origin [] k node e = let wrong : ⊥ = cc in absurd wrong
-get_origin (first ∷ nodes) zero node e = ap (λ (o : Option Node). Some (unwrap_or o first).origin) e
-get_origin (first ∷ nodes) (suc k) node e = get_origin nodes k node e
+get_origin nodes k node e = search (rules, slice_get-map)
 
 pub seen_kept : (old new : List Node) (picture : List Piece) → steps new ≡ steps old
     → origins new ≡ origins old → FollowsOne old picture → FollowsOne new picture
@@ -113,13 +88,13 @@ seen_kept old new picture steps_same origins_same (k, node, is, known, line) =
       k,
       other,
       found,
-      subst (λ (o : Origin). o ≢ Origin.Shadow) origin known,
-      subst (λ (s : Step). HasLineFrom 1 s picture) step line,
+      rw origin at known,
+      rw step at line,
     )
 
 get_more : (old more : List Node) (k : ℕ) (node : Node) → slice_get old k ≡ Some node
     → slice_get (old ++ more) k ≡ Some node
-get_more [] more k node e = let wrong : ⊥ = cc in absurd wrong
+get_more [] more k node e = absurd (cc)
 get_more (first ∷ old) more zero node e = e
 get_more (first ∷ old) more (suc k) node e = get_more old more k node e
 

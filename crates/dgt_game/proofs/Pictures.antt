@@ -1,20 +1,16 @@
 -- What a picture is read as.
-use Rattle.std.proofs.Common.{rules, ◌≡◌, ◌∙◌, ◌<◌, ◌≤◌, ◌⊎◌, inl, inr, arith, sym, refl, subst, ℕ, zero, suc, Bool, true, false, ◌∷◌, List, length, Option, Some, None, slice_index_or}
-use Rattle.std.{specs.Prelude.{◌≢◌, [], IfSome, slice_get}, proofs.{lemmas.{Option.{slice_get_read, slice_get_within}, List.{get_or-reverse, length-map}}, Math.Logic.{∥∥₁_elim}}}
+use Rattle.std.{proofs.Common.{rules, ◌≡◌, ◌∙◌, ◌<◌, ◌≤◌, ◌⊎◌, inl, inr, arith, sym, refl, ℕ, zero, suc, Bool, true, false, ◌∷◌, List, length, Option, Some, None, slice_index_or}, specs.Prelude.{◌≢◌}}
+use Rattle.std.{specs.Prelude.{[], slice_get}, proofs.{lemmas.{Option.{slice_get_read, slice_get_within}, List.{get_or-reverse, length-map}}, Math.Logic.{∥∥₁_elim}}}
 use Rattle.{dgt_values.specs.{declared.pieces.Piece.{Piece}, Board.{pieces_of}}, dgt_chess.specs.declared.{state.{Move.{Move}, State.{State}}, pieces.{Colour.{Colour}, Man.{Man}}}}
 use Rattle.{dgt_chess.specs.{Attacks.{piece_at, piece_of}, Possible.{HasKings, HasOneKing}, Rules.{board}}, dgt_game.specs.declared.{memory.Memory.{Memory}, node.{Node.{Node}, Place.{Place}}}}
 use Rattle.dgt_game.specs.{declared.{node.{Returned.{Returned}, Step.{Step}}, reading.Reading.{Reading}, recogniser.{Over.{Over}, Recogniser.{Recogniser}}, view.View.{View}}, Lines.{LeadsTo, NoLine}}
-use Rattle.dgt_game.specs.{Lines.{IsLine}, Told.{as_shown}, Memory.{steps}, Reading.{HasLine, HasLineFrom, IsExplained, IsLive, IsNear, MayGoOn, ReadsView, ShowsAt, SomeLine, EarlierAreKnown}}
+use Rattle.dgt_game.specs.{Lines.{IsLine}, Told.{as_shown}, Memory.{steps}, Reading.{HasLine, HasLineFrom, IsExplained, IsLive, IsNear, ReadsView, ShowsAt, SomeLine, EarlierAreKnown}}
 use Rattle.dgt_game.{specs.{Reading.{ElseStartIsKnown, FollowsSeen, IsKnown, IsRead, MovesAreKnown, ShowsEarlier, StartIsKnown, TwoAreKnown}, Waiting.{last_of}}, proofs.Chains.{get_step}}
 use Rattle.dgt_game.proofs.Links.{turned_back}
 
 pub read_at : (nodes : List Node) (k : ℕ) (node : Node) → k < length nodes
     → node ≡ slice_index_or nodes k node → slice_get nodes k ≡ Some node
 read_at nodes k node small is = slice_get_read nodes (length nodes) k node refl small is
-
-pub one_node : (nodes : List Node) (k : ℕ) (one other : Node) → slice_get nodes k ≡ Some one
-    → slice_get nodes k ≡ Some other → one ≡ other
-one_node nodes k one other first second = cc
 
 -- a node that was read twice
 pub shown_at : (first second node : Node) (shown : List Piece) → first ≡ node → second ≡ node
@@ -52,19 +48,18 @@ near_read reading near = search rules
 pub no_line : (count : ℕ) (state : State) (pieces shown : List Piece) → NoLine count state pieces
     → pieces ≡ shown → ¬ (SomeLine count state shown)
 unfolding NoLine
-no_line count state pieces shown none same (moves, long, leads) =
-    none moves long (subst (LeadsTo state moves) (sym same) leads)
+no_line count state pieces shown none same (moves, long, leads) = none moves long (rw same leads)
 
 -- the step at a place is known
 pub from_here : (here : Option Step) (from : Step) (count : ℕ) (picture : List Piece)
     → here ≡ Some from → ((step : Step) × (here ≡ Some step) × HasLineFrom count step picture)
     → HasLineFrom count from picture
 from_here here from count picture is (step, at, line) =
-    let same : step ≡ from = cc in subst (λ (s : Step). HasLineFrom count s picture) same line
+    let same : step ≡ from = cc in rw same at line
 
 pub none_here : (here : Option Step) (count : ℕ) (picture : List Piece) → here ≡ None
     → ¬ ((step : Step) × (here ≡ Some step) × HasLineFrom count step picture)
-none_here here count picture none (step, at, line) = let wrong : ⊥ = cc in wrong
+none_here here count picture none (step, at, line) = cc
 
 -- a test sees each king of the colour
 abbrev pub Sees : List Piece → Colour → Bool → Type 0
@@ -90,7 +85,7 @@ king_seen state turned picture colour false len same sees =
     absurd (∥∥₁_elim state.possible (λ x y. absurd x) (λ possible.
     let wrong : false ≡ true = king_shown (board state) picture turned colour false len same
     (one_king (board state) colour possible.kings) sees in
-    let none : ⊥ = cc in none))
+    cc))
 
 -- the state that is shown
 abbrev pub SomeState : List Piece → Type 0
@@ -195,13 +190,11 @@ pub explains : (old new : Recogniser) (view : View) → new.view ≡ Some view
     → new.memory.line ≡ old.memory.line → over_of new ≡ over_of old → since_of new ≡ since_of old
     → (new.here ≢ Place.Nowhere) ⊎ (returned_of new ≡ returned_of old)
     → (IsKnown old view → new.here ≢ Place.Nowhere) → IsExplained new
-explains old new view is line over since placed stands =
-    subst (λ (o : Option View). IfSome o (λ view. IsKnown new view → new.here ≢ Place.Nowhere))
-    (sym is) (λ known. elim placed [
-      | inl here ↦ here
-      | inr returned ↦ stands (known_same new old view (sym line) (sym over) (sym since)
-          (sym returned) known)
-    ])
+explains old new view is line over since placed stands = rw is (λ known. elim placed [
+  | inl here ↦ here
+  | inr returned ↦ stands (known_same new old view (sym line) (sym over) (sym since)
+      (sym returned) known)
+])
 
 pub read_or_not : (reading : Reading) → IsRead reading ⊎ (reading ≡ Reading.At Place.Nowhere)
 read_or_not reading = search rules
@@ -233,7 +226,7 @@ has_last : (self : Recogniser) (step : Step) → last_of self.memory ≡ Some st
 has_last self step last none = search rules
 
 open_line : (self : Recogniser) → self.over ≡ Over.No → self.memory.line.items ≢ [] → IsLive self
-open_line self over some = (some, subst (λ (o : Over). MayGoOn o self.since) (sym over) tt)
+open_line self over some = (some, rw over tt)
 
 pub moves_known : MovesAreKnown
 moves_known self view step one new over last move same = inr (inr (inl (

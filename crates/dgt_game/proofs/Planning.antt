@@ -1,13 +1,13 @@
 -- What is planned, and how much is left to do.
 use Rattle.std.proofs.Common.{rules, ◌≡◌, ◌∙◌, ◌⊎◌, ◌<◌, ◌≤◌, ◌+◌, inl, inr, refl, sym, ap, subst, arith, ℕ, zero, suc, Bool, true, false, List, [], ◌∷◌, Option, Some, None, Result, Ok, Err, length}
-use Rattle.std.{proofs.{Common.{unwrap_or, slice_get, slice_index_or}, lemmas.{Option.{get_or_from_slice_get, none-some, slice_get_read}}}, specs.Prelude.{⊤, ◌↔◌, MatchOption}}
-use Rattle.{std.{specs.{Prelude.{MatchResult, option_map}, Result.{result_ok}}, proofs.Math.Logic.{∥∥₁_elim}}, dgt_values.specs.{declared.pieces.Piece.{Piece}, Board.{pieces_of, square_number}}}
+use Rattle.std.{proofs.{Common.{unwrap_or, slice_get, slice_index_or}, lemmas.Option.{get_or_from_slice_get, none-some, slice_get_read}}, specs.Prelude.{⊤, ◌↔◌, MatchOption, MatchResult, option_map}}
+use Rattle.{std.{specs.Result.{result_ok}, proofs.Math.Logic.{∥∥₁_elim}}, dgt_values.specs.{declared.pieces.Piece.{Piece}, Board.{pieces_of, square_number}}}
 use Rattle.dgt_chess.specs.{declared.{pieces.Colour.{Colour}, possible.{Impossible.{Impossible}, Rights.{Rights}}, state.State.{State}}, Attacks.{other, piece_at}, Possible.{HasKings, HasNoExtra}}
 use Rattle.{dgt_chess.specs.{Possible.{HasNoStray, HasPassed, HasRights, IsPossible, Refuses}, Rules.{board}}, dgt_game.specs.declared.event.{Event.{Event}, GameResult.{GameResult}}}
-use Rattle.dgt_game.specs.declared.{memory.Memory.{Memory}, node.{Node.{Node}, Origin.{Origin}, Place.{Place}, Step.{Step}}, recogniser.{Over.{Over}, Recogniser.{Recogniser}}}
-use Rattle.dgt_game.specs.{declared.{recogniser.Search.{Search}, resting.{Next.{Next}}, view.View.{View}}, Told.{as_shown}, Memory.{steps}, Waiting.{last_of}}
-use Rattle.dgt_game.specs.Planning.{HasNothing, IsPlanned, IsRefused, IsSettled, Lacks, LacksOnly, LostIsReported, NothingFits, OneFits, PossibleIsHopeful, Plans, RestsAt}
-use Rattle.dgt_game.{specs.Planning.{RestsBy, StaysPlaced, WhyHopeless, of_kings, of_place, of_search, todo}, proofs.Chains.{get_step}}
+use Rattle.dgt_game.specs.declared.{memory.Memory.{Memory}, node.{Node.{Node}, Origin.{Origin}, Place.{Place}, Step.{Step}}, recogniser.{Over.{Over}, Recogniser.{Recogniser}, Search.{Search}}}
+use Rattle.dgt_game.specs.{declared.{resting.Next.{Next}, view.View.{View}}, Told.{as_shown}, Memory.{steps}, Waiting.{last_of}, Planning.{HasNothing, IsPlanned, IsRefused, Lacks, LacksOnly}}
+use Rattle.dgt_game.specs.Planning.{LostIsReported, NothingFits, OneFits, PossibleIsHopeful, Plans, RestsAt, RestsBy, StaysPlaced, WhyHopeless, of_kings, of_place, of_search, todo}
+use Rattle.dgt_game.proofs.Chains.{get_step}
 
 -- ---- Pieces that are gone
 
@@ -39,10 +39,6 @@ node_of [] k step e = absurd (subst (λ (o : Option Step). MatchOption o ⊤ (λ
 node_of (first ∷ nodes) zero step e =
     (first, refl, ap (λ (o : Option Step). unwrap_or o first.step) e)
 node_of (first ∷ nodes) (suc k) step e = node_of nodes k step e
-
-pub same_got : (steps : List Step) (k : ℕ) (a b : Step) → slice_get steps k ≡ Some a
-    → slice_get steps k ≡ Some b → a ≡ b
-same_got steps k a b e f = ap (λ (o : Option Step). unwrap_or o a) (sym e ∙ f)
 
 abbrev pub LacksOf : View → Step → Type 0
 LacksOf view step = LacksOnly (as_shown step.is_turned (pieces_of view.shown)) step.state
@@ -133,7 +129,7 @@ plans_with self next plan h = plans_same self next plan self.ended h
 
 pub planned_quiet : (self new : Recogniser) → new ≡ record self { ended = None } → IsPlanned self
     → IsPlanned new
-planned_quiet self new e h = subst IsPlanned (sym e) (plans_same self self.next self.next None h)
+planned_quiet self new e h = rw e (plans_same self self.next self.next None h)
 
 pub planned_then : (self new : Recogniser) (report : Option Event)
     → MatchOption report (new ≡ record self { ended = None }) (λ event. IsPlanned new)
@@ -159,11 +155,6 @@ pub fewer_by_result : (old : Recogniser) (has : Bool) → old.has_kings ≡ true
     + of_place false Place.Nowhere Search.Hopeless < todo old
 fewer_by_result old has kings none = search rules
 
-settled : (self : Recogniser) (is_next : Bool) (here : Place) (search : Search)
-    → self.is_next ≡ is_next → self.here ≡ here → self.search ≡ search
-    → of_search search + of_place is_next here search ≡ 0 → IsSettled self
-settled self is_next here search n p s e = grind arith
-
 pub nothing_left : (self : Recogniser) → todo self ≡ 0 → HasNothing self
 nothing_left self e = search rules
 
@@ -187,7 +178,7 @@ possible_is_hopeful self view why e here hopeless kings possible = elim (why vie
         let (black, board', turn') = possible turned Colour.Black in
         absurd (elim (cannot Colour.White) [
           | inl w ↦ elim (cannot Colour.Black) [
-            | inl b ↦ let wrong : ⊥ = cc in wrong
+            | inl b ↦ cc
             | inr refused ↦ refused black board' turn'
           ]
           | inr refused ↦ refused white board turn

@@ -1,36 +1,14 @@
 -- What results and lost lines mean.
-use Rattle.std.{proofs.Common.{rules, ◌≡◌, ◌≢◌, ◌∙◌, ◌⊎◌, ◌<◌, ◌++◌, inl, inr, sym, arith, ℕ, Bool, true, false, List, [], ◌∷◌, Option, Some, None, refl, zero, suc}, specs.Prelude.{Contains}}
-use Rattle.{dgt_values.specs.declared.pieces.Piece.{Piece}, dgt_game.specs.{declared.{event.{Event.{Event}, GameResult.{GameResult}}, recogniser.Recogniser.{Recogniser}}, Waiting.{CallsFollowOn}}}
-use Rattle.dgt_game.specs.{Waiting.{FollowOn, IsRight, RightIfAway, RunsInTurn, events_in, has_result, is_lost}, Results.{AreLost, FitsAt, HasResults, IsOnlyOn, KingsOn, LostInTurn, NotFound}}
-use Rattle.{dgt_game.specs.Results.{NotLost, OneByKings, OneByRules, OneOther, OneResult, Stay}, dgt_chess.specs.declared.state.State.{State}}
+use Rattle.std.{proofs.Common.{rules, ◌≡◌, ◌∙◌, ◌++◌, sym, arith, ℕ, Bool, true, false, List, [], ◌∷◌, Option, Some, None, refl, zero, suc}, specs.Prelude.{Contains}}
+use Rattle.dgt_game.specs.{declared.{event.{Event.{Event}, GameResult.{GameResult}}, recogniser.Recogniser.{Recogniser}}, Waiting.{CallsFollowOn, FollowOn, IsRight, RightIfAway, RunsInTurn}}
+use Rattle.dgt_game.specs.{Waiting.{events_in, has_result, is_lost}, Results.{AreLost, HasResults, LostInTurn, NotFound, NotLost, OneByKings, OneByRules, OneOther, OneResult, Stay}}
+use Rattle.dgt_chess.specs.declared.state.State.{State}
 
 pub one_by_rules : OneByRules
 one_by_rules state h h' h'' k = search rules
 
-one_square : (picture : List Piece) (piece : Piece) (a b : ℕ) → b < 64
-    → IsOnlyOn picture piece a → IsOnlyOn picture piece b → b ≡ a
-one_square picture piece a b less h k = h.1 b less k.0
-
--- kings on two squares stand on no other two
-other_kings : (picture : List Piece) (a b c d : ℕ) → a < 64 → b < 64 → c < 64 → d < 64
-    → KingsOn picture a b → KingsOn picture c d → ((c ≡ a) × (d ≡ b)) ⊎ ((d ≡ a) × (c ≡ b))
-other_kings picture a b c d la lb lc ld h k = search rules
-
-apart : (picture : List Piece) (a b c d : ℕ) → a < 64 → b < 64 → c < 64 → d < 64
-    → (c ≢ a) ⊎ (d ≢ b) → (d ≢ a) ⊎ (c ≢ b) → KingsOn picture a b → KingsOn picture c d → ⊥
-apart picture a b c d la lb lc ld e f h k = elim (other_kings picture a b c d la lb lc ld h k) [
-  | inl same ↦ elim e [ inl n ↦ n same.0 | inr n ↦ n same.1 ]
-  | inr same ↦ elim f [ inl n ↦ n same.0 | inr n ↦ n same.1 ]
-]
-
 pub one_by_kings : OneByKings
 one_by_kings picture h h' h'' k = search rules
-
--- what doesn't fit is the other square
-is_other : (picture pieces : List Piece) (other square : ℕ) → square < 64
-    → ((k : ℕ) → k < 64 → k ≢ other → FitsAt picture pieces k)
-    → ¬ (FitsAt picture pieces square) → (differs : square ≢ other) → ⊥
-is_other picture pieces other square less fits wrong differs = wrong (fits square less differs)
 
 pub one_other : OneOther
 one_other picture pieces first second less more like wrong bad = search rules
@@ -123,7 +101,7 @@ right_if_away self away = (
     h.1,
     search rules,
   ),
-  λ squares h. let e = sym away ∙ h.2.1 in let wrong : ⊥ = cc in wrong,
+  λ squares h. let e = sym away ∙ h.2.1 in cc,
 )
 
 first_has : (event : Event) (events : List Event) → Contains (event ∷ events) event

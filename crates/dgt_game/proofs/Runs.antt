@@ -1,15 +1,13 @@
 -- Over whole runs.
-use Rattle.{std.{proofs.Common.{rules, ◌≡◌, ◌++◌, inl, refl, sym, subst, List, [], ◌∷◌, Some, None}, specs.Prelude.{IfSome, slice_get}}, dgt_values.specs.declared.pieces.Piece.{Piece}}
-use Rattle.{dgt_values.specs.Board.{pieces_of}, dgt_chess.specs.Rules.{board}, dgt_game.specs.declared.{node.Step.{Step}, observation.Sight.{Sight}, recogniser.Recogniser.{Recogniser}}}
-use Rattle.dgt_game.specs.{Memory.{IsKept, told_of}, Planning.{IsPlanned}, Recogniser.{Knows, new_recogniser, shown_after}, Runs.{Call, CallsAreRuns, IsLegalAndShown, LastWasShown, NothingWasSure}}
-use Rattle.dgt_game.specs.{Runs.{Runs, ShownMayEnd, StaysSound, SureIsCounted, SureIsSeen, SureWasShown, events_of, shown_in, sure_in}, Standing.{Stands}, Sure.{EndsSure, KnowsSure, WasSure}}
-use Rattle.dgt_game.{specs.{Sure.{sure_after}, Told.{IsLegalTold, Told, WasShown, as_shown, told_pieces}}, proofs.Known.{Within, knows_more, knows_nothing, within_cons, within_first}}
-use Rattle.dgt_game.proofs.Sure.{kings_sure, knows_none, knows_sure_more, shown_sure}
+use Rattle.{std.{proofs.Common.{rules, ◌≡◌, ◌++◌, inl, refl, subst, List, [], ◌∷◌, Some, None}, specs.Prelude.{IfSome, slice_get}}, dgt_values.specs.{declared.pieces.Piece.{Piece}, Board.{pieces_of}}}
+use Rattle.{dgt_chess.specs.Rules.{board}, dgt_game.specs.{declared.{node.Step.{Step}, observation.Sight.{Sight}, recogniser.Recogniser.{Recogniser}}, Memory.{IsKept, told_of}, Planning.{IsPlanned}}}
+use Rattle.dgt_game.specs.{Recogniser.{Knows, new_recogniser, shown_after}, Runs.{Call, CallsAreRuns, IsLegalAndShown, LastWasShown, NothingWasSure, Runs, ShownMayEnd, StaysSound, SureIsCounted}}
+use Rattle.dgt_game.specs.{Runs.{SureIsSeen, SureWasShown, events_of, shown_in, sure_in}, Standing.{Stands}, Sure.{EndsSure, KnowsSure, WasSure, sure_after}, Told.{IsLegalTold, Told, WasShown}}
+use Rattle.dgt_game.{specs.Told.{as_shown, told_pieces}, proofs.{Known.{Within, knows_more, knows_nothing, within_cons, within_first}, Sure.{kings_sure, knows_none, knows_sure_more, shown_sure}}}
 
 runs_append : (old mid new : Recogniser) (calls more : List Call) → Runs old calls mid
     → Runs mid more new → Runs old (calls ++ more) new
-runs_append old mid new [] more first next =
-    subst (λ (self : Recogniser). Runs self more new) first next
+runs_append old mid new [] more first next = rw first at next
 runs_append old mid new (call ∷ calls) more first next =
     (first.0, first.1, runs_append first.0 mid new calls more first.2 next)
 
@@ -41,8 +39,7 @@ stays_sound shown sure more line next old new h sound known now =
 over_calls : (calls : List Call) (shown sure : List (List Piece)) (line : List Told)
     (old ended : Recogniser) → IsSound shown sure line old → Runs old calls ended
     → Leads_on shown sure line calls ended
-over_calls [] shown sure line old ended h runs =
-    (line, refl, subst (λ (self : Recogniser). IsSound shown sure line self) (sym runs) h)
+over_calls [] shown sure line old ended h runs = (line, refl, rw runs h)
 over_calls (Call.See sight ∷ calls) shown sure line old ended h (next, (sees, sound, seen), runs) =
     let after = sound shown line h.known h.planned h.stands in
     over_calls calls (shown_after sight shown) (sure_after sight sure) line next ended (record {
@@ -75,8 +72,7 @@ over_calls (Call.GoOn state is_turned ∷ calls) shown sure line old ended h
 ends : (sure : List (List Piece)) (items : List Step) (line : List Told) → IsKept items line
     → IfSome (slice_get items 0) (λ step. WasSure sure (told_of step)) → EndsSure sure line
 ends sure items [] kept h = tt
-ends sure [] (told ∷ line) kept h =
-    let none : told ∷ line ≡ [] = kept.1 refl in absurd (let wrong : ⊥ = cc in wrong)
+ends sure [] (told ∷ line) kept h = let none : told ∷ line ≡ [] = kept.1 refl in absurd (cc)
 ends sure (step ∷ items) (told ∷ line) kept h = subst (WasSure sure) kept.0.0 h
 
 pub legal_and_shown : IsLegalAndShown

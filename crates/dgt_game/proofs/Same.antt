@@ -1,13 +1,10 @@
 -- One state follows a move.
-use Rattle.std.proofs.Common.{rules, ◌≡◌, ◌∙◌, ℕ, sym}
-use Rattle.std.specs.Prelude.{Option}
-use Rattle.dgt_chess.specs.{declared.{pieces.Man.{Man}, state.{Move.{Move}, State.{State}}}, Rules.{IsAfter}}
+use Rattle.{std.{proofs.Common.{rules, ◌≡◌, ◌∙◌, ℕ, sym}, specs.Prelude.{Option}}, dgt_chess.specs.{declared.{pieces.Man.{Man}, state.{Move.{Move}, State.{State}}}, Rules.{IsAfter}}}
 use Rattle.{dgt_chess.proofs.{Same.{alike}, Unique.{same_man}}, dgt_game.specs.Lines.{IsMove}}
 
 one_after : (man : Man) (state : State) (from to : ℕ) (promotion : Option Man) (a b : State)
     → IsAfter man state from to promotion a → IsAfter man state from to promotion b → a ≡ b
-one_after man state from to promotion a b x y =
-    search (rules, alike)
+one_after man state from to promotion a b x y = search (rules, alike)
 
 -- one state follows a move
 pub one_next : (state : State) (one : Move) (a b : State) → IsMove state one a

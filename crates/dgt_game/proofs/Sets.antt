@@ -1,9 +1,8 @@
 -- What is found in sets of lines, which differ in their first half-moves.
-use Rattle.std.{proofs.{Common.{rules, ◌≡◌, ◌∙◌, ℕ, ◌<◌, List, ◌∷◌, ap, arith, inl, inr, length, refl, subst, sym}}, specs.Prelude.{◌≢◌, ◌⊎◌, ◌+◌, ◌≤◌, ⊤, suc, Option}}
-use Rattle.{dgt_values.specs.{declared.pieces.Piece.{Piece}, Board.{square_number}}, dgt_chess.specs.declared.{pieces.Man.{Man}, state.{Move.{Move}, State.{State}}}}
+use Rattle.std.{proofs.Common.{rules, ◌≡◌, ◌∙◌, ℕ, ◌<◌, List, ◌∷◌, ap, arith, inl, inr, length, refl, subst, sym}, specs.Prelude.{◌≢◌, ◌⊎◌, ◌+◌, ◌≤◌, ⊤, suc, Option}}
+use Rattle.{dgt_values.specs.{declared.pieces.Piece.{Piece}, Board.{square_number}}, dgt_chess.{specs.declared.{pieces.Man.{Man}, state.{Move.{Move}, State.{State}}}, proofs.Same.{same_move}}}
 use Rattle.dgt_game.specs.{declared.ways.Ways.{Ways, TheVariants.{Nothing, Only, Several}}, Lines.{IsMove, IsOnly, LeadsTo, NoLine, moves_of}, Ways.{AreWays, AreWaysBy, BeginsIn, Ends, Follows}}
 use Rattle.dgt_game.{specs.Ways.{IsSeveral, IsWay, both}, proofs.Same.{one_next}}
-use Rattle.dgt_chess.proofs.Same.{same_move}
 
 -- the legal half-moves of one set are in another
 abbrev pub Within : State → (Move → Type 0) → (Move → Type 0) → Type 0
@@ -44,11 +43,6 @@ several F G halves state pieces (Only moves new) there is h = absurd is
 -- a set of half-moves whose legal ones are in two others
 abbrev pub Splits : State → (Move → Type 0) → (Move → Type 0) → (Move → Type 0) → Type 0
 Splits state H F G = (one : Move) (next : State) → IsMove state one next → H one → F one ⊎ G one
-
-split : (F G H : Move → Type 0) (halves : ℕ) (state : State) (pieces : List Piece)
-    (moves : List Move) (new : State) → Splits state H F G → IsWay halves state pieces moves new
-    → BeginsIn H moves → BeginsIn F moves ⊎ BeginsIn G moves
-split F G H halves state pieces moves new h way begins = search rules
 
 differing : (F G : Move → Type 0) (moves others : List Move) → ((one : Move) → F one → ¬ (G one))
     → BeginsIn F moves → BeginsIn G others → moves ≢ others
@@ -138,15 +132,13 @@ after_only : (halves : ℕ) (state next : State) (pieces : List Piece) (one : Mo
     × ((others : List Move) (end : State) → IsWay (suc halves) state pieces others end
     → BeginsIn (λ other. other ≡ one) others → others ≡ all)
 unfolding LeadsTo IsOnly
-after_only halves state next pieces one all moves new listed move way only =
-    let W : List Move → Type 0 = λ ms. IsWay (suc halves) state pieces ms new in
-    let B : List Move → Type 0 = λ ms. BeginsIn (λ other. other ≡ one) ms in (
-      subst W (sym listed) (longer halves state next pieces one moves new move way),
-      subst B (sym listed) refl,
-      λ others end way' begins.
-          let r = rest_of halves state next pieces one others end move way' begins in
-          r.1 ∙ ap (λ ms. one ∷ ms) (only r.0 (r.2.0 ∙ sym way.0) (end, r.2.1, r.2.2)) ∙ sym listed,
-    )
+after_only halves state next pieces one all moves new listed move way only = (
+  rw listed (longer halves state next pieces one moves new move way),
+  rw listed refl,
+  λ others end way' begins.
+      let r = rest_of halves state next pieces one others end move way' begins in
+      r.1 ∙ ap (λ ms. one ∷ ms) (only r.0 (r.2.0 ∙ sym way.0) (end, r.2.1, r.2.2)) ∙ sym listed,
+)
 
 pub after_move : (halves : ℕ) (state next : State) (pieces : List Piece) (one : Move)
     (ways new : Ways) → Follows one ways new → IsMove state one next
@@ -154,18 +146,14 @@ pub after_move : (halves : ℕ) (state next : State) (pieces : List Piece) (one 
     → AreWaysBy (λ other. other ≡ one) (suc halves) state pieces new
 unfolding NoLine LeadsTo
 after_move halves state next pieces one Nothing new follows move h =
-    let P : Ways → Type 0 = λ w. AreWaysBy (λ other. other ≡ one) (suc halves) state pieces w in
-    subst P (sym follows) (λ moves end way begins.
+    rw follows (λ moves end way begins.
     let r = rest_of halves state next pieces one moves end move way begins in
     h r.0 r.2.0 (end, r.2.1, r.2.2))
 after_move halves state next pieces one (Only moves end) new (all, e, listed) move (way, only) =
-    let P : Ways → Type 0 = λ w. AreWaysBy (λ other. other ≡ one) (suc halves) state pieces w in
-    subst P (sym e) (after_only halves state next pieces one (moves_of all) (moves_of moves) end
+    rw e (after_only halves state next pieces one (moves_of all) (moves_of moves) end
     listed move way only)
 after_move halves state next pieces one (Several new') new follows move
-    (first, other, way, (end, way'), differ) =
-    let P : Ways → Type 0 = λ w. AreWaysBy (λ other. other ≡ one) (suc halves) state pieces w in
-    subst P (sym follows) (
+    (first, other, way, (end, way'), differ) = rw follows (
       one ∷ first,
       one ∷ other,
       (longer halves state next pieces one first new' move way, refl),
@@ -195,11 +183,9 @@ pub promoted : (halves : ℕ) (state : State) (pieces : List Piece) (from to : �
 promoted halves state pieces from to P promotion ways other differ h k =
     joined (Ends from to P) (Ends from to (λ p. p ≡ promotion))
     (Ends from to (λ p. P p ⊎ (p ≡ promotion))) halves state pieces ways other
-    (λ one next move (a, b, p). (a, b, inl p))
-    (λ one next move (a, b, p). (a, b, inr p))
+    (λ one next move (a, b, p). (a, b, inl p)) (λ one next move (a, b, p). (a, b, inr p))
     (λ one next move (a, b, either). elim either [ inl p ↦ inl (a, b, p) | inr p ↦ inr (a, b, p) ])
-    (λ one (a, b, p) (a', b', same). differ (subst P same p))
-    h k
+    (λ one (a, b, p) (a', b', same). differ (subst P same p)) h k
 
 -- one more goal
 pub further : (halves : ℕ) (state : State) (pieces : List Piece) (from to : ℕ)
@@ -215,11 +201,8 @@ further halves state pieces from to ways other new e h k =
     let G : Move → Type 0 = λ one. (square_number one.from ≡ from) × (square_number one.to ≡ to) in
     let H : Move → Type 0 =
     λ one. (square_number one.from ≡ from) × (square_number one.to < to + 1) in
-    subst (AreWaysBy H halves state pieces) (sym e) (joined F G H halves state pieces ways other
-    (λ one next move (a, b). (a, omega arith))
-    (λ one next move (a, b). (a, omega arith))
-    (search rules)
-    (λ one (a, b) (a', b'). omega arith)
+    rw e (joined F G H halves state pieces ways other (λ one next move (a, b). (a, omega arith))
+    (λ one next move (a, b). (a, omega arith)) (search rules) (λ one (a, b) (a', b'). omega arith)
     h k)
 
 -- one more first square
@@ -232,12 +215,8 @@ next_from halves state pieces from ways other new e h k =
     let F : Move → Type 0 = λ one. square_number one.from < from in
     let G : Move → Type 0 = λ one. square_number one.from ≡ from in
     let H : Move → Type 0 = λ one. square_number one.from < from + 1 in
-    subst (AreWaysBy H halves state pieces) (sym e) (joined F G H halves state pieces ways other
-    (λ one next move a. omega arith)
-    (λ one next move a. omega arith)
-    (search rules)
-    (λ one a b. omega arith)
-    h k)
+    rw e (joined F G H halves state pieces ways other (λ one next move a. omega arith)
+    (λ one next move a. omega arith) (search rules) (λ one a b. omega arith) h k)
 
 -- the goals below 64, and the first squares
 pub all_goals : (halves : ℕ) (state : State) (pieces : List Piece) (from to : ℕ) (ways : Ways)
@@ -262,5 +241,4 @@ pub several_ways : (halves : ℕ) (state : State) (pieces : List Piece) (from : 
     → AreWaysBy (λ one. square_number one.from < from) (suc halves) state pieces ways
     → AreWays (suc halves) state pieces ways
 several_ways halves state pieces from ways is h =
-    all_ways (λ one. ⊤) halves state pieces ways (λ one. tt)
-    (search (rules, several))
+    all_ways (λ one. ⊤) halves state pieces ways (λ one. tt) (search (rules, several))

@@ -1,18 +1,9 @@
 -- What is reported has rested.
-use Rattle.std.{proofs.Common.{rules, ◌≡◌, ◌∙◌, ◌≤◌, ◌+◌, ◌-◌, ◌^◌, ◌⊎◌, inl, inr, refl, sym, subst, min, ℕ, Bool, true, false, [], ◌∷◌, Option, Some, None}, specs.Prelude.{◌≢◌, IfSome, MatchOption}}
-use Rattle.{std.{specs.Prelude.{if◌then◌else◌, option_map, slice_get}, proofs.lemmas.{Bool.{false≢true}, Option.{none-some}}}, dgt_game.specs.declared.node.{Node.{Node}, Origin.{Origin}}}
-use Rattle.dgt_game.specs.{declared.{node.{Place.{Place}, Way.{Way}}, recogniser.Recogniser.{Recogniser}, resting.{Next.{Next}, Task.{Task}}, view.View.{View}}, Memory.{steps}, Planning.{Lacks}}
-use Rattle.dgt_game.specs.{Planning.{Plans, RestsAt, RestsBefore, RestsBy}, Settling.{IsAt, NothingWaitsLong, ReplacingHasRested, ReportedHasRested, ReportedHasSettled, ReportedIsShown}}
-use Rattle.dgt_game.{specs.{Settling.{SeenIsAnswered}, Standing.{Counts, Lands, ShowsAs, StandsAt}, Timing.{IsIdle}}, proofs.{Rests.{only_shown}, Standing.{some_of}}}
-
--- what is done next is planned if it is due
-timed : (sure : Bool) (next : Option Next) (since now : ℕ) → MatchOption (if sure
-    then option_map (λ (n : Next). min (since + n.wait) (2 ^ 64 - 1)) next else None) ⊥ (λ at.
-    at ≤ now) → (sure ≡ true) × ((plan : Next) × (next ≡ Some plan)
-    × (min (since + plan.wait) (2 ^ 64 - 1) ≤ now))
-timed true (Some plan) since now h = (refl, (plan, refl, h))
-timed true None since now h = absurd h
-timed false next since now h = absurd h
+use Rattle.std.{proofs.Common.{rules, ◌≡◌, ◌∙◌, ◌≤◌, ◌+◌, ◌⊎◌, inl, inr, refl, sym, subst, ℕ, true, false, [], ◌∷◌, Option, Some, None}, specs.Prelude.{◌≢◌, IfSome, MatchOption, slice_get}}
+use Rattle.{std.proofs.lemmas.{Bool.{false≢true}, Option.{none-some}}, dgt_game.specs.declared.{node.{Node.{Node}, Origin.{Origin}, Place.{Place}, Way.{Way}}, recogniser.Recogniser.{Recogniser}}}
+use Rattle.dgt_game.specs.{declared.{resting.{Next.{Next}, Task.{Task}}, view.View.{View}}, Memory.{steps}, Planning.{Lacks, Plans, RestsAt, RestsBefore, RestsBy}, Settling.{IsAt, NothingWaitsLong}}
+use Rattle.dgt_game.{specs.{Settling.{ReplacingHasRested, ReportedHasRested, ReportedHasSettled, ReportedIsShown, SeenIsAnswered}, Standing.{StandsAt}, Timing.{IsIdle}}, proofs.Rests.{only_shown}}
+use Rattle.dgt_game.proofs.Standing.{some_of}
 
 pub reported_has_rested : ReportedHasRested
 reported_has_rested self new event now (planned, quiet, small, ([], tells)) =
@@ -93,10 +84,8 @@ seen_is_answered self view stands answered seen waits = elim answered [
         | inl told ↦ absurd (waits told)
         | inr meant ↦ elim meant.1 [
           | inl last ↦
-              let lands = subst (λ (o : Option View). IfSome o (λ v. Lands v self.memory)) seen
-              last.1 in
-              let shows = subst (λ (o : Option Node). IfSome o (λ n. Counts n → ShowsAs view n)) is
-              lands.1 in (node, is, by, shows (inl by))
+              let lands = rw seen at last.1 in
+              let shows = rw is at lands.1 in (node, is, by, shows (inl by))
           | inr kings ↦ absurd (none-some node (sym kings.2 ∙ is))
         ]
       ]

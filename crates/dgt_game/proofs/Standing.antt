@@ -1,9 +1,9 @@
 -- The board's place in what is known, and what it shows once all is reported.
-use Rattle.std.{proofs.{Common.{rules, ◌≡◌, ◌≢◌, ◌∙◌, ◌⊎◌, ◌≤◌, refl, sym, ap, ℕ, Bool, true, false, List, length, Option, Some, None, unwrap_or}, Math.Bridge.{le_prop}}, specs.Prelude.{IfSome}}
-use Rattle.{std.specs.Prelude.{MatchOption}, dgt_values.specs.declared.pieces.Piece.{Piece}, dgt_chess.specs.{declared.state.State.{State}, Rules.{board}}}
-use Rattle.dgt_game.specs.declared.{memory.Memory.{Memory}, node.{Node.{Node}, Place.{Place}, Returned.{Returned}, Step.{Step}}, recogniser.Recogniser.{Recogniser}, view.View.{View}}
-use Rattle.dgt_game.specs.{Memory.{IsBefore, IsTold, step_at, steps}, Planning.{LacksOnly}, Reading.{Shows}, Told.{IsHeld}, Standing.{EndsHere, IsCalledFor, IsMeant, IsOpen, Lands, ShowsAs, ShowsBut}}
-use Rattle.dgt_game.{specs.{Standing.{ShowsLast, Stands, StandsAt, TakesBack}, Waiting.{coming}}, proofs.{Chains.{moved, some_below}, Links.{turned_back}}}
+use Rattle.std.{proofs.{Common.{rules, ◌≡◌, ◌≢◌, ◌∙◌, ◌⊎◌, ◌≤◌, refl, ap, ℕ, Bool, true, false, List, length, Option, Some, None}, Math.Bridge.{le_prop}}, specs.Prelude.{IfSome, MatchOption}}
+use Rattle.{dgt_values.specs.declared.pieces.Piece.{Piece}, dgt_chess.specs.{declared.state.State.{State}, Rules.{board}}, dgt_game.specs.declared.{memory.Memory.{Memory}, node.Node.{Node}}}
+use Rattle.dgt_game.specs.{declared.{node.{Place.{Place}, Returned.{Returned}, Step.{Step}}, recogniser.Recogniser.{Recogniser}, view.View.{View}}, Memory.{IsBefore, IsTold, step_at, steps}}
+use Rattle.dgt_game.specs.{Planning.{LacksOnly}, Reading.{Shows}, Told.{IsHeld}, Standing.{EndsHere, IsCalledFor, IsMeant, IsOpen, Lands, ShowsAs, ShowsBut, ShowsLast, Stands, StandsAt, TakesBack}}
+use Rattle.dgt_game.{specs.Waiting.{coming}, proofs.{Chains.{moved, some_below}, Links.{turned_back}}}
 
 -- what is so of a value is so of one that is there
 pub some_of : {X : Type 0} (o : Option X) (P : X → Type 0) → MatchOption o ⊥ P → (x : X)
@@ -92,9 +92,6 @@ back_of o back P h = search rules
 
 pub every_some : {X : Type 0} (o : Option X) (P : X → Type 0) → ((x : X) → P x) → IfSome o P
 every_some o P x = search rules
-
-pub same_some : {X : Type 0} (o : Option X) (a b : X) → o ≡ Some a → o ≡ Some b → a ≡ b
-same_some o a b e f = ap (λ (p : Option _). unwrap_or p a) (sym e ∙ f)
 
 -- a node is shown wherever it is kept
 pub shows_moved : (view : View) (node new : Node) (place : Place) → new.step ≡ moved node.step place

@@ -1,7 +1,7 @@
 -- What is done whenever `due` is called.
-use Rattle.std.{proofs.Common.{rules, ◌≡◌, ◌∙◌, ◌++◌, ◌≤◌, ◌<◌, ap, refl, sym, subst, ℕ, Bool, true, false, List, [], ◌∷◌, Option, Some, None}, specs.Prelude.{IfSome, MatchOption}}
-use Rattle.{std.{specs.Prelude.{if◌then◌else◌}, proofs.lemmas.Option.{none-some}}, dgt_game.specs.declared.{event.Event.{Event}, recogniser.Recogniser.{Recogniser}, resting.Next.{Next}}}
-use Rattle.dgt_game.specs.{Timing.{Acts, AllDue, Calls, DoneBy, Due, HasTask, IsIdle, NoCallMatters, Tells, next_time, with_report}, Waiting.{Follows, IsQuiet, IsRight}}
+use Rattle.std.{proofs.{Common.{rules, ◌≡◌, ◌∙◌, ◌++◌, ◌≤◌, ◌<◌, ap, refl, sym, subst, ℕ, false, List, [], ◌∷◌, Option, Some, None}, lemmas.Option.{none-some}}, specs.Prelude.{IfSome, MatchOption}}
+use Rattle.dgt_game.specs.{declared.{event.Event.{Event}, recogniser.Recogniser.{Recogniser}, resting.Next.{Next}}, Timing.{Acts, AllDue, Calls, DoneBy, Due, HasTask, IsIdle, NoCallMatters, Tells}}
+use Rattle.dgt_game.specs.{Timing.{next_time, with_report}, Waiting.{Follows, IsQuiet, IsRight}}
 
 -- what is done next doesn't count
 pub right_with : (self : Recogniser) (next : Option Next) (event : Event)
@@ -23,10 +23,6 @@ tells_then a b c report h k = search rules
 has_later : (now later : ℕ) (next : Option ℕ) → now ≤ later
     → MatchOption next ⊥ (λ at. at ≤ now) → MatchOption next ⊥ (λ at. at ≤ later)
 has_later now later next less h = search rules
-
-if_none : (b : Bool) (x : Option ℕ) → x ≡ None → (if b then x else None) ≡ None
-if_none true x e = e
-if_none false x e = refl
 
 pub no_time : (self : Recogniser) → self.next ≡ None → next_time self ≡ None
 no_time self e = search rules
@@ -87,8 +83,7 @@ reported now later old between new (Some event) early after late less due e h =
     rw e (between, (due.0, done_later now later due.0 old between event less due.1), h)
 
 pub no_call_matters : NoCallMatters
-no_call_matters [] now old next new early late all calls h =
-    rw calls.0 (subst (λ (self : Recogniser). AllDue now self late new) calls.1 h)
+no_call_matters [] now old next new early late all calls h = rw calls.0 (rw calls.1 at h)
 no_call_matters (time ∷ times) now old next new early late all calls h =
     let (report, between, due, (after, more, e)) = calls in
     search (rules, reported, no_call_matters times now between next new after late all.1 more h)
@@ -119,8 +114,7 @@ with_more (Some event) after late = refl
 pub calls_then : (old mid new : Recogniser) (times later : List ℕ) (early late : List Event)
     → Calls times old early mid → Calls later mid late new
     → Calls (times ++ later) old (early ++ late) new
-calls_then old mid new [] later early late (none, same) next =
-    rw none (subst (λ (self : Recogniser). Calls later self late new) same next)
+calls_then old mid new [] later early late (none, same) next = rw none (rw same at next)
 calls_then old mid new (now ∷ times) later early late
     (report, self, due, (after, calls, e)) next = (
       report,

@@ -1,8 +1,8 @@
 -- The line, as it is reported.
-use Rattle.std.proofs.Common.{rules, ◌≡◌, ◌≢◌, ◌<◌, ◌-◌, ◌⊎◌, refl, sym, subst, inl, inr, arith, ℕ, zero, suc, length, take, List, [], ◌∷◌, Option, Some, None}
-use Rattle.{std.{proofs.lemmas.Grind.{common_steps}, specs.Prelude.{⊤, slice_get, MatchOption}}, dgt_values.specs.declared.pieces.Piece.{Piece}, dgt_chess.specs.declared.state.State.{State}}
-use Rattle.dgt_game.specs.{declared.{event.Event.{Event}, node.{Node.{Node}, Step.{Step}, Way.{Way}, Place.{Place}}}, Told.{Told, IsShown, Leads, WasShown}, Memory.{By, Chain, Grows, AreLast, IsKept}}
-use Rattle.dgt_game.specs.Memory.{IsRooted, IsSeen, Links, event_by, event_of, halves_of, line_after, line_by, step_at, steps, tip, told_of}
+use Rattle.std.proofs.{Common.{rules, ◌≡◌, ◌≢◌, ◌<◌, ◌-◌, ◌⊎◌, refl, subst, inl, inr, arith, ℕ, zero, suc, length, take, List, [], ◌∷◌, Option, Some, None}, lemmas.Grind.{common_steps}}
+use Rattle.{std.specs.Prelude.{⊤, slice_get, MatchOption}, dgt_values.specs.declared.pieces.Piece.{Piece}, dgt_chess.specs.declared.state.State.{State}, dgt_game.specs.declared.event.Event.{Event}}
+use Rattle.dgt_game.specs.{declared.node.{Node.{Node}, Step.{Step}, Way.{Way}, Place.{Place}}, Told.{Told, IsShown, Leads}, Memory.{By, Chain, Grows, AreLast, IsKept, IsRooted, IsSeen, Links}}
+use Rattle.dgt_game.specs.Memory.{event_by, event_of, halves_of, line_after, line_by, step_at, steps, tip, told_of}
 
 pub kept_take : (nodes : List Node) (line : List Told) (n : ℕ) → AreLast (steps nodes) line
     → AreLast (steps (take n nodes)) line
@@ -44,10 +44,6 @@ leads [] line step kept h = search rules
 leads (first ∷ rest) [] step kept h = absurd kept.0
 leads (first ∷ rest) (told ∷ line) step kept h = search (rules, leads_first)
 
-shown_by : (shown : List (List Piece)) (way : Way) (told : Told) (line : List Told)
-    → WasShown shown told → IsShown shown line → IsShown shown (line_by way told line)
-shown_by shown way told line seen h = search rules
-
 pub makes : (shown : List (List Piece)) (line : List Told) (kept new rest : List Step) (step :
     Step) → IsKept kept line → IsShown shown line → Chain shown (slice_get kept 0) (step ∷ rest)
     → slice_get new 0 ≡ Some step → Leads line (event_of step) (line_after step line)
@@ -64,11 +60,9 @@ takes_back : (shown : List (List Piece)) (line : List Told) (first : Node) (kept
 takes_back shown line first kept zero some within is_kept is_shown = absurd (some refl)
 takes_back shown [] first kept (suc k) some within is_kept is_shown = absurd is_kept.0
 takes_back shown (told ∷ line) first [] (suc k) some within is_kept is_shown =
-    absurd (elim within
-    [ inl e ↦ omega arith | inr l ↦ omega arith ])
+    absurd (elim within [ inl e ↦ omega arith | inr l ↦ omega arith ])
 takes_back shown (told ∷ []) first (second ∷ kept) (suc k) some within is_kept is_shown =
-    absurd
-    is_kept.0.1
+    absurd is_kept.0.1
 takes_back shown (told ∷ before ∷ line) first (second ∷ kept) (suc k) some within is_kept is_shown
     = search rules
 
@@ -85,14 +79,7 @@ taken_back shown line [] new back halves drops counts some within is_kept is_sho
 taken_back shown line (first ∷ rest) new back halves drops counts some within is_kept is_shown =
     let e : new ≡ rest = drops first rest refl in
     let n : halves ≡ halves_of first.step.way = counts first rest refl in
-    subst (λ (xs : List Node). (told : List Told) × Leads line (Event.Back halves) told
-    × IsShown shown told × IsKept (steps xs) told × ((back - 1 ≡ 0)
-    ⊎ (back - 1 < length (steps xs)))
-    × (slice_get (steps (first ∷ rest)) back ≡ slice_get (steps xs) (back - 1))) (sym e)
-    (subst (λ (k : ℕ). (told : List Told) × Leads line (Event.Back k) told × IsShown shown told
-    × IsKept (steps rest) told × ((back - 1 ≡ 0) ⊎ (back - 1 < length (steps rest)))
-    × (slice_get (steps (first ∷ rest)) back ≡ slice_get (steps rest) (back - 1))) (sym n)
-    (takes_back shown line first rest back some within is_kept is_shown))
+    rw e (rw n (takes_back shown line first rest back some within is_kept is_shown))
 
 pub nothing_seen : (seen : List Step) (unsaid rest : List Node) (node : Node) (back : ℕ)
     → (seen ≡ []) ⊎ ((back ≡ 0) × (unsaid ≡ [])) → unsaid ≡ node ∷ rest → seen ≡ []

@@ -68,7 +68,7 @@ fitting_more picture pieces at has_other fits h = (
 pub fitting_but : (picture pieces : List Piece) (at : ℕ) (has_other : Bool)
     → has_other ≡ false → Fitting picture pieces at has_other → Fitting picture pieces (at + 1) true
 fitting_but picture pieces at has_other none h = (
-  λ wrong. absurd (let impossible : ⊥ = cc in impossible),
+  λ wrong. absurd (cc),
   (
     at,
     search rules,
@@ -79,8 +79,7 @@ fitting_but picture pieces at has_other none h = (
 abbrev pub FoundOn : List Piece → Piece → ℕ → Option ℕ → Type 0
 FoundOn picture piece at None = (k : ℕ) → k < at → piece_at picture k ≢ piece
 FoundOn picture piece at (Some found) =
-    (piece_at picture found ≡ piece)
-    × ((k : ℕ) → k < at → piece_at picture k ≡ piece → k ≡ found)
+    (piece_at picture found ≡ piece) × ((k : ℕ) → k < at → piece_at picture k ≡ piece → k ≡ found)
 
 pub found_none : (picture : List Piece) (piece : Piece) (at : ℕ) (found : Option ℕ)
     → piece_at picture at ≢ piece → FoundOn picture piece at found

@@ -76,9 +76,6 @@ takes_settle count = all_replicate IsSettlingMove count Move.Take tt
 hears_settle : (count : ℕ) → AllByRecursion IsSettlingMove (replicate count Move.Hear)
 hears_settle count = all_replicate IsSettlingMove count Move.Hear tt
 
-sending_settles : (move : Move) → IsSending move → IsSettlingMove move
-sending_settles move is = search rules
-
 pub moves-squares : (one : Act) (moves : List Move) (x : MachineState)
     → AreMovesOfAct (act_content one) moves
     → (after_moves x moves).board.squares ≡ squares_after x.board.squares (one ∷ [])

@@ -36,8 +36,7 @@ module _ (behind : ActsBehind) where
       set_promises behind follows_clock stops_clock ClockIsComing clock_hope
       (λ x. x.board.reported_clock ≡ None) command
       mode world after (λ x moves e reported. rw e (inr (inr (inr reported)))) sets asks
-      (search rules)
-      step
+      (search rules) step
 
   pub clock_promises : (world after : WorldView) → IsClockFollowing world
       → FaultyStep (sends CommandContent.Clock) world Outcome.Done after

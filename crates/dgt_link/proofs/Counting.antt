@@ -306,8 +306,7 @@ module _ (laws : Grammars) where
         noise.0,
         noise.1,
         laws.divisions_append bytes restart_bytes events
-            (noise.0 ++ map EventContent.Read commands_anew) rest []
-            divides
+            (noise.0 ++ map EventContent.Read commands_anew) rest [] divides
             (rw (append_assoc rest (replicate 255 0) follow_bytes) at
             (laws.divisions_append (rest ++ replicate 255 0) follow_bytes noise.0
             (map EventContent.Read commands_anew) [] [] noise.2 (anew_divides laws.nothing))),

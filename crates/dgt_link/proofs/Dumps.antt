@@ -87,8 +87,7 @@ module _ (behind : ActsBehind) where
         let y : MachineState = after_moves x reached.1 in
         let rest_is : others ≡ earlier ++ first ∷ later = cc in
         let rest = comes_goes (before ++ now square x ∷ []) acts reached.0 between
-        (after_moves x reached.1) answers
-        earlier first later all.1 reached.3
+        (after_moves x reached.1) answers earlier first later all.1 reached.3
         (step_comes act answer x reached.1 all.0 reached.2 comes)
         (later_shown (shown square x.picture) (along square y.picture y.up)
         ((before ++ now square x ∷ []) ++ now square y ∷ [])

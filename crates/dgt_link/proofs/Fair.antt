@@ -207,7 +207,7 @@ module _ (none_owed : (board : BoardState) → next_message board ≡ None → b
     where
       parts : Split round later world after answers
       parts = run_split round later world after answers
-          (subst (λ (all : List ActContent). Runs all world answers after) both runs)
+          (rw both at runs)
 
       counted : done_count answers ≡ done_count parts.ones + done_count parts.others
       counted = ap done_count parts.both ∙ count_both parts.ones parts.others

@@ -19,10 +19,6 @@ one_act : (one : Act) (world after : WorldView) → Becomes (act_content one) wo
     → after.board.state.squares ≡ squares_after world.board.state.squares (one ∷ [])
 one_act one world after delivers = search (rules, effects_same_game)
 
-one_more : (squares : List Piece) (one : Act) (acts : List Act)
-    → squares_after (squares_after squares (one ∷ [])) acts ≡ squares_after squares (one ∷ acts)
-one_more squares one acts = search rules
-
 few_done : (acts : List Act) (world after : WorldView) (answers : List Outcome)
     → Runs (map act_content acts) world answers after → done_count answers ≤ length acts
 few_done [] world after [] same = omega arith

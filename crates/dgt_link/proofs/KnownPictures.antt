@@ -221,7 +221,7 @@ moves_since : (x : MachineState) (past more : List Move) → IsSound x → AllBy
     → SinceEach x past → SinceEach x (past ++ more)
 moves_since x past [] sound all each = rw (append-nil past) each
 moves_since x past (move ∷ more) sound all each =
-    subst (λ (moves : List Move). SinceEach x moves) (append_assoc past (move ∷ []) more)
+    rw (append_assoc past (move ∷ []) more) at
     (moves_since x (past ++ move ∷ []) more sound all.1 (move_since x sound past each move all.0))
 
 -- nothing is under way at first

@@ -148,7 +148,7 @@ taking_more append board now new line left after moved n taking more within room
     let rest : left.bytes ≡ drop moved line.bytes =
     ap (λ (l : LineContents). l.bytes) taking.left_is in
     let calm' : StaysUnfinished now (drop moved line.bytes) n =
-    subst (λ (l : List ℕ). StaysUnfinished now l n) rest calm in
+    rw rest at calm in
     record {
       within = within;
       taken = search (rules, taken_more);

@@ -18,11 +18,6 @@ clock_after_all-append clock [] message = refl
 clock_after_all-append clock (first ∷ up) message =
     clock_after_all-append (clock_after clock first) up message
 
-absent : (raw raw' : List ℕ) (status status' : ℕ) → raw ≡ raw' → status ≡ status'
-    → ClockState.no_clock (record { raw = raw; status = status }) ≡ ClockState.no_clock
-    (record { raw = raw'; status = status' })
-absent raw raw' status status' e f = rw (e, f)
-
 pub handed_or_reported : (mode : Mode) (reported : Option ClockState) (clock : ClockState)
     → IsTrue (follows_clock mode)
     → IsTrue (owed_when_handed mode (is_reported reported clock)) ⊎ (reported ≡ Some clock)

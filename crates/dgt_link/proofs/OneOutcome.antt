@@ -9,14 +9,6 @@ order a b = search rules
 
 -- ---- one outcome and one world
 
--- two acts with the same outcome lead to the same world
-left_once : (Left : WorldView → Type 0)
-    → ((one other : WorldView) → Left one → Left other → one ≡ other)
-    → (world one other : WorldView) (answer also : Outcome) → answer ≡ also
-    → IfDone answer (Left one) (one ≡ world) → IfDone also (Left other) (other ≡ world)
-    → one ≡ other
-left_once Left once world one other answer also e first second = search rules
-
 -- a board has taken bytes in one way
 module _
     (one_taking : (before after other : BoardView) (bytes : List ℕ) → HasTaken before bytes after

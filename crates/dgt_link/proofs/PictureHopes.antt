@@ -96,8 +96,7 @@ module _ (behind : ActsBehind) where
         → FaultyStep act world answer after → IsPromisedWorld after
     keeps_promised =
         kept behind updates stops PictureIsComing picture_hope is_fault (λ bytes. refl) refl
-        IsPromised IsSane
-        (other_promised behind updates stops PictureIsComing picture_hope)
+        IsPromised IsSane (other_promised behind updates stops PictureIsComing picture_hope)
         (λ bytes old new fault. cc)
         (λ act old new begins ends sane step. anew_heals act old new begins sane step)
 

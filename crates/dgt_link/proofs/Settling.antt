@@ -174,19 +174,12 @@ Moves world after =
     (act : ActContent) × IsNext world act × Step act world Outcome.Done after
     × (work_left after < work_left world)
 
-some_bytes : (bytes : List ℕ) → (length bytes == 0) ≡ false → 0 < length bytes
-some_bytes bytes h = search rules
-
 pub hears : (world after : WorldView) (answer : Outcome) → (length world.up.bytes == 0) ≡ false
     → Step (ActContent.ToHost (length world.up.bytes)) world answer after → Moves world after
 hears world after answer some step = search (rules, hear_works)
 
 pub no_bytes : (bytes : List ℕ) → (length bytes == 0) ≡ true → bytes ≡ []
 no_bytes bytes h = grind (arith, common_steps)
-
--- facts of a world from the state that it stands for
-reported_all : (world : WorldView) → IsWorld world → length world.board.state.reported_squares ≡ 64
-reported_all world is = rw is.stands.board is.stands.sound.reported_squares
 
 pub sends : BacklogFalls
     → (world after : WorldView) (answer : Outcome) → length world.board.state.reported_squares ≡ 64
@@ -223,7 +216,7 @@ in_order_more : (acts : List ActContent) (act : ActContent) (old now new : World
     → AreInOrder (acts ++ act ∷ []) old new
 in_order_more [] act old now new same next step = (
   new,
-  subst (λ (w : WorldView). IsNext w act) same next,
+  rw same at next,
   search rules,
   refl,
 )

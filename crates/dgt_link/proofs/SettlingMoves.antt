@@ -37,8 +37,7 @@ module _ (falls : BacklogFalls) (rises : BacklogRises) where
     where
       down : x.up ≡ [] → next_message x.board ≡ None → (events : List EventContent)
           → x.down ≡ events → IsQuiet x ⊎ ((move : Move) × NearerBy x move)
-      down none_up none [] e =
-          inl (search (rules, nothing_first))
+      down none_up none [] e = inl (search (rules, nothing_first))
       down none_up none (event ∷ later) e = inr (Move.Take, takes_nearer x event later e)
 
       next : x.up ≡ [] → (message : Option Content) → next_message x.board ≡ message

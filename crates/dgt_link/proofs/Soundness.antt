@@ -131,8 +131,7 @@ move_sound x Move.Break sound =
     new_sound x.board.squares x.board.clock x.board.identity sound.squares
 move_sound x (Move.HostBreak noise is_noise) sound =
     asked_sound (state_of_board x.board) (noise ++ map EventContent.Read commands_anew)
-    (Kind.Dump ∷ []) (board_sound x sound)
-    (search (rules, host_break-kinds, subsequence_at_end))
+    (Kind.Dump ∷ []) (board_sound x sound) (search (rules, host_break-kinds, subsequence_at_end))
 
 -- both sides are as new, except for the squares, the clock and the identity
 pub break_exact : (x : MachineState) → IsSound x → IsExact (after_move x Move.Break)

@@ -135,8 +135,7 @@ module _ (laws : Grammars) where
       → HasTaken world.board (take moved world.down.bytes) board → world.board.state ≡ x.board
       → Divides (world.board.partial ++ world.down.bytes) x.down [] → IsTakenAs world moved board x
   taken_as world moved board x taken same divides =
-      let prefix = laws.prefixes_divide_first
-      (world.board.partial ++ take moved world.down.bytes)
+      let prefix = laws.prefixes_divide_first (world.board.partial ++ take moved world.down.bytes)
       (drop moved world.down.bytes) taken.events x.down board.partial [] taken.divided
       (rw (prefix_of world.board.partial world.down.bytes moved) at divides) in
       record {

@@ -1,6 +1,5 @@
-use Rattle.{std.proofs.Common.{rules, arith, ◌≡◌, Some, inl, inr, subst, slice_get}, dgt_values.specs.{declared.{pieces.Piece.{Piece}, positions.Position.{Position}}, Board.{pieces_of}}}
-use Rattle.{dgt_values.specs.Board.{square_number}, dgt_chess.specs.Attacks.{other}, dgt_game.proofs.{Moved.{Keeps, kept_more, some_man}, early.moves_again.Goals.{then-ne+then-is_some-2}}}
-use Rattle.dgt_game.proofs.early.moves_again.Goals.{then-is_some, else-is_some+else-eq, then-ne+else-is_some-2+else-ne-2, else-ne}
+use Rattle.{std.proofs.Common.{rules, arith, ◌≡◌, inl, inr}, dgt_values.specs.{declared.pieces.Piece.{Piece}, Board.{pieces_of, square_number}}, dgt_chess.specs.Attacks.{other}}
+use Rattle.dgt_game.proofs.{Moved.{Keeps, kept_more, some_man}, early.moves_again.Goals.{then-ne+then-is_some-2, then-is_some, else-is_some+else-eq, then-ne+else-is_some-2+else-ne-2, else-ne}}
 use Rattle.dgt_game.proofs.early.moves_again.Goals as goal
 
 pub loop-at-preserved : goal.loop-at-preserved
@@ -27,7 +26,5 @@ loop-at-preserved c =
     ] in
     let sides : side ≡ other state.turn = search rules in
     kept_more (pieces_of c.args.shown.now) state side square c.loop-at.at old new
-    (c.from_small-square.ensures.small (omega (arith, c.loop-at-test.true)))
-    c.get-new.ensures.piece
-    (subst (λ (p : Position). slice_get (pieces_of p) square ≡ Some old) c.position.ensures
-    c.get-old.ensures.piece) sides keeps c.loop-at.invariant
+    (c.from_small-square.ensures.small (omega (arith, c.loop-at-test.true))) c.get-new.ensures.piece
+    (rw c.position.ensures at c.get-old.ensures.piece) sides keeps c.loop-at.invariant

@@ -5,5 +5,5 @@ pub returns-clause-kept : goal.returns-clause-kept
 returns-clause-kept c = λ line h.
     rw (c.insert.ensures.items, c.truncate.ensures.items) (
       (refl, kept_take c.args.nodes.now.items line 15 h.0),
-      λ e. absurd (let wrong : ⊥ = cc in wrong),
+      λ e. absurd (cc),
     )

@@ -1,5 +1,4 @@
-use Rattle.{std.proofs.Common.{◌≡◌, ◌⊎◌, Some, arith, below_more, slice_get, subst}, dgt_values.specs.{declared.{pieces.Piece.{Piece}, positions.Position.{Position}}, Board.{pieces_of}}}
-use Rattle.{dgt_values.specs.Board.{square_number}, dgt_chess.specs.{declared.pieces.{Colour.{Colour}, Man.{Man}}, Attacks.{piece_of}}, dgt_game.proofs.Hands.{LacksAt, lacks_at}}
+use Rattle.{std.proofs.Common.{arith, below_more}, dgt_values.specs.Board.{pieces_of, square_number}, dgt_game.proofs.Hands.{LacksAt, lacks_at}}
 use Rattle.dgt_game.proofs.reading.is_held.Goals as goal
 
 pub loop-at-preserved : goal.loop-at-preserved
@@ -12,8 +11,5 @@ loop-at-preserved c =
     below_more (λ k. LacksAt picture state k) c.loop-at.at c.loop-at.invariant
     (lacks_at picture state square c.loop-at.at new old
     (c.from_small-square.ensures.small (omega (arith, c.loop-at-test.true))) c.get.ensures.piece
-    (subst (λ (p : Position). slice_get (pieces_of p) square ≡ Some old) c.position.ensures
-    c.get-in-loop-at.ensures.piece)
-    (subst (λ (t : Colour). (new ≡ old)
-    ⊎ ((new ≡ Piece.Empty) × ((man : Man) × (old ≡ piece_of t man)))) c.turn.ensures
-    (c.may_lack.ensures c.if-not-may_lack.false)))
+    (rw c.position.ensures at c.get-in-loop-at.ensures.piece)
+    (rw c.turn.ensures at (c.may_lack.ensures c.if-not-may_lack.false)))

@@ -1,6 +1,5 @@
-use Rattle.{std.proofs.Common.{rules, arith, ◌≡◌, None, Some, inl, inr, subst, slice_get}, dgt_values.specs.{declared.positions.Position.{Position}, Board.{pieces_of, square_number}}}
-use Rattle.dgt_game.proofs.{Moved.{Moves, no_man, stays_more}, searching.has_moved.Goals.{else-ne-via-then-ne+else-is_some-2, then-is_some, else-is_some+then-eq, else-is_some+else-eq}}
-use Rattle.dgt_game.proofs.searching.has_moved.Goals.{else-ne-via-else-ne}
+use Rattle.{std.proofs.Common.{rules, arith, ◌≡◌, None, inl, inr}, dgt_values.specs.Board.{pieces_of, square_number}, dgt_game.proofs.Moved.{Moves, no_man, stays_more}}
+use Rattle.dgt_game.proofs.searching.has_moved.Goals.{else-ne-via-then-ne+else-is_some-2, then-is_some, else-is_some+then-eq, else-is_some+else-eq, else-ne-via-else-ne}
 use Rattle.dgt_game.proofs.searching.has_moved.Goals as goal
 
 pub loop-at-preserved : goal.loop-at-preserved
@@ -31,7 +30,5 @@ loop-at-preserved c =
           let same : new ≡ old = search rules in differs same)
     ] in
     stays_more (pieces_of c.args.shown.now) c.args.state.now side square c.loop-at.at old new
-    (c.from_small-square.ensures.small (omega (arith, c.loop-at-test.true)))
-    c.get-new.ensures.piece
-    (subst (λ (p : Position). slice_get (pieces_of p) square ≡ Some old) c.position.ensures
-    c.get-old.ensures.piece) stays c.loop-at.invariant
+    (c.from_small-square.ensures.small (omega (arith, c.loop-at-test.true))) c.get-new.ensures.piece
+    (rw c.position.ensures at c.get-old.ensures.piece) stays c.loop-at.invariant

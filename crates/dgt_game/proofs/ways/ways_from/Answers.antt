@@ -1,6 +1,5 @@
-use Rattle.{std.{proofs.Common.{◌≡◌, ◌<◌, arith, refl, rules, subst, sym}, specs.Prelude.{◌+◌, suc}}, dgt_values.specs.Board.{pieces_of, square_number}, dgt_game.specs.declared.ways.Ways.{Ways}}
-use Rattle.dgt_game.{specs.{declared.ways.Ways.TheVariants.{Nothing}, Ways.{AreWaysBy}}, proofs.{Leaving.{kept, no_goal, no_man}, Sets.{all_goals, further, several_from}}}
-use Rattle.dgt_game.proofs.ways.ways_from.Goals.{then-has+else-is_several, else-has}
+use Rattle.{std.{proofs.Common.{arith, refl, rules}, specs.Prelude.{◌+◌, suc}}, dgt_values.specs.Board.{pieces_of}, dgt_game.{specs.declared.ways.Ways.TheVariants.{Nothing}, proofs.Leaving.{kept}}}
+use Rattle.dgt_game.proofs.{Leaving.{no_goal, no_man}, Sets.{all_goals, further, several_from}, ways.ways_from.Goals.{then-has+else-is_several, else-has}}
 use Rattle.dgt_game.proofs.ways.ways_from.Goals as goal
 
 pub returns-in_default : goal.returns-in_default
@@ -19,13 +18,11 @@ loop-to-preserved g c =
     let pieces = pieces_of c.args.picture.now in
     let halves = suc g.S.Search.depth in
     let to = c.loop-to.to in
-    let P : Ways → Type 0 = AreWaysBy (λ one. (square_number one.from ≡ c.args.from)
-    × (square_number one.to < to + 1)) halves state pieces in
     elim c.if-has.branch [
-      | then-has+else-is_several w ↦ subst P (sym w.found-is)
+      | then-has+else-is_several w ↦ rw w.found-is
           (further halves state pieces c.args.from to c.loop-to.found w.ways_over.result
           w.add.new.self w.add.ensures c.loop-to.invariant w.ways_over.ensures)
-      | else-has w ↦ subst P (sym w.found-is)
+      | else-has w ↦ rw w.found-is
           (further halves state pieces c.args.from to c.loop-to.found Nothing c.loop-to.found refl
           c.loop-to.invariant (no_goal g.S.Search.depth state pieces c.args.from to (search rules)))
     ]

@@ -1,12 +1,11 @@
-use Rattle.{std.{proofs.Common.{◌≡◌, ◌∙◌, ap, arith, rules, subst, sym}, specs.Prelude.{suc}}, dgt_values.specs.Board.{pieces_of, square_number}, dgt_game.specs.declared.ways.Ways.{Ways}}
-use Rattle.dgt_game.{specs.Ways.{AreWaysBy, both}, proofs.{Leaving.{vacant}, Promoting.{four, tells, unpromoted}}}
+use Rattle.{std.{proofs.Common.{◌≡◌, ◌∙◌, ap, arith, rules}, specs.Prelude.{suc}}, dgt_values.specs.Board.{pieces_of}, dgt_game.specs.{declared.ways.Ways.{Ways}, Ways.{both}}}
+use Rattle.dgt_game.proofs.{Leaving.{vacant}, Promoting.{four, tells, unpromoted}}
 use Rattle.dgt_game.proofs.ways.ways_over.Goals as goal
 
 pub returns-then-is_same : goal.returns-then-is_same
 returns-then-is_same g c =
     vacant g.S.Search.depth c.args.state.now (pieces_of c.args.picture.now) c.args.man c.args.from
-    c.args.to (omega (arith, c.requires.depth)) c.requires.own (search rules)
-    (search rules)
+    c.args.to (omega (arith, c.requires.depth)) c.requires.own (search rules) (search rules)
 
 pub returns-then-not-is_promotion : goal.returns-then-not-is_promotion
 returns-then-not-is_promotion g c =
@@ -31,9 +30,6 @@ returns g c =
     let all : c.add-3.new.self ≡ both (both (both queen rook) bishop) knight =
     c.add-3.ensures ∙ ap (λ (w : Ways). both w knight) (c.add-2.ensures
     ∙ ap (λ (w : Ways). both w bishop) c.add.ensures) in
-    let P : Ways → Type 0 = λ w.
-    AreWaysBy (λ one. (square_number one.from ≡ from) × (square_number one.to ≡ to))
-    (suc g.S.Search.depth) state pieces w in
-    subst P (sym all) (four (suc g.S.Search.depth) state pieces from to queen rook bishop knight
+    rw all (four (suc g.S.Search.depth) state pieces from to queen rook bishop knight
     c.is_promotion.result told c.if-not-is_promotion.false c.ways_by-found.ensures
     c.ways_by-2.ensures c.ways_by-3.ensures c.ways_by-4.ensures)

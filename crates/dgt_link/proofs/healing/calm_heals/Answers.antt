@@ -20,8 +20,7 @@ returns-clause-dump c =
     let still = c.faults_heal.ensures.sane acts world between answers sane before in
     let following = sane_keeps c.faults_heal.ensures.sane _ IsFollowing
     (λ act old new answer keeps. c.steps_heal.ensures.following act old new answer keeps.0 keeps.1)
-    acts world between answers
-    all sane follows before in
+    acts world between answers all sane follows before in
     c.promised_worlds_heal.ensures.picture after
     (sane_keeps c.faults_heal.ensures.sane _ IsPromisedWorld
     (λ a old new answer calm. c.steps_heal.ensures.kept a old new answer calm.0 calm.1) later begun

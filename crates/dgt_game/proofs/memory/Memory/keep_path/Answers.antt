@@ -1,5 +1,5 @@
-use Rattle.{std.proofs.Common.{rules, ◌≡◌, [], refl, sym, subst, inr, length, Option}, dgt_game.specs.{declared.node.{Place.{Place}, Step.{Step}}, Memory.{Chain, IsBefore, IsRooted, Links, step_at}}}
-use Rattle.dgt_game.{specs.Memory.{steps, tip}, proofs.{Chains.{place_at}, Held.{seen_new}, Sure.{seen_marked}}}
+use Rattle.{std.proofs.Common.{rules, ◌≡◌, [], refl, subst, inr, length, Option}, dgt_game.specs.{declared.node.Step.{Step}, Memory.{IsBefore, IsRooted, Links, step_at, steps, tip}}}
+use Rattle.dgt_game.proofs.{Chains.{place_at}, Held.{seen_new}, Sure.{seen_marked}}
 use Rattle.dgt_game.proofs.memory.Memory.keep_path.Goals as goal
 
 pub returns : goal.returns
@@ -9,22 +9,20 @@ returns c =
     let seen = steps m.seen.items in
     let path = steps c.path-path.result.0.items in
     let start = c.path-path.result.1 in
-    let at : step_at kept seen start ≡ step_at kept [] start =
+    let same : step_at kept seen start ≡ step_at kept [] start =
     place_at kept seen start c.in_default-start.not-Seen in
     let within : (IsRooted (length kept) seen) → IsBefore (length kept) 0 start =
     λ rooted. c.path-path.ensures.start rooted (inr c.in_default-start.not-Seen) in
     record {
       holds = λ shown line back nothing h.
           seen_new shown line m _ refl refl refl refl back nothing
-          (c.chained-seen.ensures.grows shown kept (subst (λ (o : Option Step). Chain shown o path)
-          at (c.path-path.ensures.path shown line h)))
-          (c.chained-seen.ensures.rooted (length kept) (within h.rooted))
-          h;
+          (c.chained-seen.ensures.grows shown kept
+          (rw same at (c.path-path.ensures.path shown line h)))
+          (c.chained-seen.ensures.rooted (length kept) (within h.rooted)) h;
       links = λ step h.
           c.chained-seen.ensures.links kept step
-          (subst (λ (o : Option Step). Links (tip o path) step) at
-          (subst (λ (o : Option Step). Links o step) (sym c.path-path.ensures.tip)
-          (subst (λ (p : Place). Links (step_at kept seen p) step) c.in-Seen.is h)));
+          (subst (λ (o : Option Step). Links (tip o path) step) same
+          (rw c.path-path.ensures.tip (rw c.in-Seen.is at h)));
       back = refl;
       unsaid = refl;
       line = refl;

@@ -1,7 +1,7 @@
-use Rattle.{std.{proofs.{Common.{rules, ◌≡◌, ◌∙◌, ◌++◌, ◌∷◌, [], refl, sym, ap, subst, List, length}, lemmas.List.{length-map}}, specs.Prelude.{slice_get}}, dgt_game.specs.declared.node.Node.{Node}}
-use Rattle.dgt_game.{specs.{declared.node.Step.{Step}, Memory.{Grows, IsBefore, IsRooted, Links, step_at, steps}}, proofs.Chains.{before_later, grows_push, last_at, last_item, moved, not_seen}}
-use Rattle.dgt_game.{proofs.{Chains.{rooted_push, steps_push}, Held.{seen_new}, Moved.{FollowsOne, pushed}, Sure.{marked_push, seen_marked}, Told.{links_moved}}, specs.declared.memory.Memory.{Memory}}
-use Rattle.dgt_game.{specs.{Reading.{FollowsSeen}, Sure.{AreMarked}}, proofs.memory.Memory.push.Goals.{then-is_full-via-then-is_full, then-is_full-via-else-is_full+then-not-may_follow}}
+use Rattle.{std.{proofs.{Common.{rules, ◌≡◌, ◌∙◌, ◌++◌, ◌∷◌, [], refl, sym, ap, List, length}, lemmas.List.{length-map}}, specs.Prelude.{slice_get}}, dgt_game.specs.declared.node.Node.{Node}}
+use Rattle.dgt_game.{specs.{declared.node.Step.{Step}, Memory.{IsBefore, Links, step_at, steps}}, proofs.Chains.{before_later, grows_push, last_item, moved, not_seen, rooted_push, steps_push}}
+use Rattle.dgt_game.proofs.{Held.{seen_new}, Moved.{pushed}, Sure.{marked_push, seen_marked}, Told.{links_moved}, memory.Memory.push.Goals.{then-is_full-via-then-is_full}}
+use Rattle.dgt_game.proofs.memory.Memory.push.Goals.{then-is_full-via-else-is_full+then-not-may_follow}
 use Rattle.dgt_game.proofs.memory.Memory.push.Goals as goal
 
 pub returns-then-is_full-clause-holds : goal.returns-then-is_full-clause-holds
@@ -22,13 +22,10 @@ returns-clause-holds c = λ shown line back nothing links seen h.
     let same : steps c.push.new.self.items ≡ old ++ moved step parent ∷ [] =
     ap steps c.push.ensures.items ∙ steps_push m.seen.items _ in
     seen_new shown line m _ refl refl refl refl (c.keep_path.ensures.back ∙ back)
-    (c.keep_path.ensures.unsaid ∙ nothing)
-    (subst (λ (xs : List Step). Grows shown kept xs) (sym same)
+    (c.keep_path.ensures.unsaid ∙ nothing) (rw same
     (grows_push shown kept old (moved step parent) held.grows (links_moved (step_at kept old
     parent) step parent linked) seen))
-    (subst (λ (xs : List Step). IsRooted (length kept) xs) (sym same)
-    (rooted_push (length kept) old (moved step parent) held.rooted before))
-    held
+    (rw same (rooted_push (length kept) old (moved step parent) held.rooted before)) held
 
 pub returns-clause-seen : goal.returns-clause-seen
 returns-clause-seen c =
@@ -40,7 +37,7 @@ returns-clause-seen c =
     let len : length old ≡ c.len-len.result =
     length-map m.seen.items (λ (n : Node). n.step) ∙ sym c.len-len.ensures.value in (
       c.in_ok-parent.parent,
-      ap (λ (xs : List Step). slice_get xs c.len-len.result) same ∙ last_at
+      ap (λ (xs : List Step). slice_get xs c.len-len.result) same ∙ last_item
           old new c.len-len.result len,
     )
 
@@ -78,23 +75,22 @@ returns-clause-rooted c = λ rooted.
     c.may_follow.ensures.0 (search rules) in
     let same : steps c.push.new.self.items ≡ old ++ new ∷ [] =
     ap steps c.push.ensures.items ∙ steps_push m.seen.items _ in
-    subst (λ (xs : List Step). IsRooted (length (steps m.line.items)) xs) (sym same)
+    rw same
     (rooted_push (length (steps m.line.items)) old new (c.keep_path.ensures.rooted rooted) before)
 
 pub returns-clause-kept : goal.returns-clause-kept
 returns-clause-kept c = λ few picture seen.
     let m = c.keep_path.new.self in
-    subst (λ (nodes : List Node). FollowsOne nodes picture) (sym c.push.ensures.items)
-    (pushed m.seen.items _ picture (subst (λ (n : Memory). FollowsOne n.seen.items picture)
-    (sym (c.keep_path.ensures.few few).1) seen))
+    rw c.push.ensures.items
+    (pushed m.seen.items _ picture (rw (c.keep_path.ensures.few few).1 seen))
 
 pub returns-then-is_full-clause-kept : goal.returns-then-is_full-clause-kept
 returns-then-is_full-clause-kept c = λ few picture seen.
-    subst (λ (n : Memory). FollowsSeen n picture) (sym (c.keep_path.ensures.few few).1) seen
+    rw (c.keep_path.ensures.few few).1 seen
 
 pub returns-clause-sure : goal.returns-clause-sure
 returns-clause-sure c = λ sure gone mark h.
     let m = c.keep_path.new.self in
     let held = c.keep_path.ensures.sure sure gone h in
-    seen_marked sure gone m _ refl refl refl refl (subst (AreMarked sure) (sym c.push.ensures.items)
-    (marked_push sure m.seen.items _ held.seen mark)) held
+    seen_marked sure gone m _ refl refl refl refl
+    (rw c.push.ensures.items (marked_push sure m.seen.items _ held.seen mark)) held

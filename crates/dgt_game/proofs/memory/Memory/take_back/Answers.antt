@@ -1,5 +1,5 @@
-use Rattle.{std.{proofs.Common.{◌≡◌, ◌≢◌, [], ap, sym, subst, inl, inr, List, Option, None}, specs.Prelude.{slice_get, IfSome}}, dgt_game.specs.{declared.node.Step.{Step}, Memory.{Chain, Grows}}}
-use Rattle.dgt_game.{specs.Memory.{IsSeen, Links, steps, tip}, proofs.{Told.{grows_none, rooted_none, taken_back}, Waiting.{dropped}}}
+use Rattle.{std.{proofs.Common.{◌≡◌, [], ap, inl, inr, Option}, specs.Prelude.{slice_get}}, dgt_game.{specs.{declared.node.Step.{Step}, Memory.{steps, tip}}, proofs.Told.{grows_none, rooted_none}}}
+use Rattle.dgt_game.proofs.{Told.{taken_back}, Waiting.{dropped}}
 use Rattle.dgt_game.proofs.memory.Memory.take_back.Goals as goal
 
 pub returns-clause-holds : goal.returns-clause-holds
@@ -19,13 +19,10 @@ returns-clause-holds c = λ shown line some h.
         shown_line = t.2;
         kept = t.3;
         back = rw less t.4;
-        unsaid = subst (λ (o : Option Step). Chain shown o (steps m.unsaid.items)) same h.unsaid;
-        answer = subst (λ (o : Option Step). IfSome m.answer (λ n. Links (tip o (steps
-            m.unsaid.items)) n.step × IsSeen shown n.step)) same h.answer;
-        answered = subst (λ (o : Option Step). IfSome m.answer (λ n. tip o (steps m.unsaid.items)
-            ≢ None)) same h.answered;
-        grows = subst (λ (xs : List Step). Grows shown (steps new) xs) (sym none) (grows_none shown
-            (steps new));
+        unsaid = rw same at h.unsaid;
+        answer = rw same at h.answer;
+        answered = rw same at h.answered;
+        grows = rw none (grows_none shown (steps new));
         rooted = rw none (rooted_none _);
         quiet = inl none;
       },

@@ -1,6 +1,6 @@
-use Rattle.std.{proofs.{Common.{rules, ◌≡◌, ◌≢◌, ◌<◌, arith, inl, inr, refl, sym, subst, ℕ, [], Option, None, Some, length}, lemmas.Option.{none-some}}, specs.Prelude.{slice_get}}
-use Rattle.dgt_game.{specs.{declared.node.{Place.{Place}, Step.{Step}}, Memory.{IsBefore, step_at, steps, tip}}, proofs.Chains.{below_some, not_seen, steps_length, chain_any, some_at, steps_some}}
-use Rattle.dgt_game.proofs.{Chains.{tip_any, tip_there}, Waiting.{tip_some}, memory.Memory.way_to.Goals.{in-Seen, in_default, in_default-start-via-in-Line+else-base-len}}
+use Rattle.std.{proofs.{lemmas.Option.{slice_get_within, none-some}, Common.{rules, ◌≡◌, ◌≢◌, ◌<◌, arith, inl, inr, refl, sym, subst, ℕ, [], Option, None, Some, length}}, specs.Prelude.{slice_get}}
+use Rattle.dgt_game.{specs.{declared.node.{Place.{Place}, Step.{Step}}, Memory.{IsBefore, step_at, steps, tip}}, proofs.Chains.{not_seen, steps_length, chain_any, some_at, steps_some, tip_any}}
+use Rattle.dgt_game.proofs.{Chains.{tip_there}, Waiting.{tip_some}, memory.Memory.way_to.Goals.{Joined-place, in-Seen, in_default, in_default-start-via-in-Line+else-base-len}}
 use Rattle.dgt_game.proofs.memory.Memory.way_to.Goals.{in_default-start-via-in-Nowhere+else-not-is_empty, in_default-start-via-in_default-start}
 use Rattle.dgt_game.proofs.memory.Memory.way_to.Goals as goal
 
@@ -32,7 +32,7 @@ returns-in-Line-clause-near c = λ step rooted e. elim c.match-place.branch [
 
 pub returns-in-Line-clause-news : goal.returns-in-Line-clause-news
 returns-in-Line-clause-news c = λ step e other. elim c.match-place.branch [
-  | in-Seen w ↦ inr (search (rules, e, below_some))
+  | in-Seen w ↦ inr (search (rules, e, slice_get_within))
   | in_default w ↦ inl (search (rules, other))
 ]
 
@@ -55,8 +55,7 @@ returns-in_default-start-clause-found c = λ step rooted e.
     × (path.1 ≡ Place.Nowhere → path.0.items ≢ []) × ((j : ℕ) → path.1 ≢ Place.Seen j) =
     elim c.match-place.branch [
       | in-Seen w ↦
-          let within = below_some seen w.in-Seen.k step (subst (λ (p : Place). step_at lines seen p
-          ≡ Some step) w.in-Seen.is e) in
+          let within = slice_get_within seen w.in-Seen.k step (rw w.in-Seen.is at e) in
           let before = w.path.ensures.start rooted (inl within) in
           rw w.path-is (
             (λ base at. (subst (IsBefore (length lines) 0) at before).0),
@@ -64,10 +63,8 @@ returns-in_default-start-clause-found c = λ step rooted e.
             not_seen (length lines) w.path.result.1 before,
           )
       | in_default w ↦ rw w.path-is (
-        (λ base at. below_some lines base step (subst (λ (p : Place). step_at lines seen p
-            ≡ Some step) at e)),
-        (λ at. absurd (none-some step (subst (λ (p : Place). step_at lines seen p
-            ≡ Some step) at e))),
+        (λ base is. slice_get_within lines base step (rw is at e)),
+        (λ is. absurd (none-some step (rw is at e))),
         w.in_default.not-Seen,
       )
     ] in
@@ -94,45 +91,33 @@ ends_at : (last at : Option Step) → last ≡ at → last ≢ None → (step : 
 ends_at None at e some = absurd (some refl)
 ends_at (Some step) at e some = (step, sym e, refl)
 
+-- the path leads to the place
+leads : (c : Joined-place)
+    → tip (step_at (steps c.args.self.now.line.items) (steps c.args.self.now.seen.items)
+    c.match-place.path.1) (steps c.match-place.path.0.items)
+    ≡ step_at (steps c.args.self.now.line.items) (steps c.args.self.now.seen.items) c.args.place
+leads c = elim c.match-place.branch [
+  | in-Seen w ↦ rw (w.path-is, w.in-Seen.is) w.path.ensures.tip
+  | in_default w ↦ rw (w.path-is, w.new.ensures) refl
+]
+
 pub returns-in-Line-clause-ends : goal.returns-in-Line-clause-ends
 returns-in-Line-clause-ends c =
-    let lines = steps c.args.self.now.line.items in
-    let seen = steps c.args.self.now.seen.items in
-    let path = c.match-place.path in
-    let same : tip (step_at lines seen path.1) (steps path.0.items)
-    ≡ step_at lines seen c.args.place = elim c.match-place.branch [
-      | in-Seen w ↦ rw (w.path-is, w.in-Seen.is) w.path.ensures.tip
-      | in_default w ↦ rw (w.path-is, w.new.ensures) refl
-    ] in
-    ends_at _ _ (subst (λ (p : Place). tip (step_at lines seen p) (steps path.0.items)
-    ≡ step_at lines seen c.args.place) c.in-Line.is same) (returns-in-Line-clause-some c)
+    let same = leads (goal.at.returns-in-Line-clause-ends c).Joined-place in
+    ends_at _ _ (rw c.in-Line.is at same) (returns-in-Line-clause-some c)
 
 pub returns-then-is_open-clause-ends : goal.returns-then-is_open-clause-ends
 returns-then-is_open-clause-ends c =
-    let lines = steps c.args.self.now.line.items in
-    let seen = steps c.args.self.now.seen.items in
-    let path = c.match-place.path in
-    let same : tip (step_at lines seen path.1) (steps path.0.items)
-    ≡ step_at lines seen c.args.place = elim c.match-place.branch [
-      | in-Seen w ↦ rw (w.path-is, w.in-Seen.is) w.path.ensures.tip
-      | in_default w ↦ rw (w.path-is, w.new.ensures) refl
-    ] in
-    let found = ends_at _ _ (subst (λ (p : Place). tip (step_at lines seen p) (steps path.0.items)
-    ≡ step_at lines seen c.args.place) c.in-Nowhere.is same)
-    (tip_there None (steps path.0.items) (inr (steps_some _ (search rules)))) in
+    let same = leads (goal.at.returns-then-is_open-clause-ends c).Joined-place in
+    let found = ends_at _ _ (rw c.in-Nowhere.is at same)
+    (tip_there None (steps c.match-place.path.0.items) (inr (steps_some _ (search rules)))) in
     (found.0, found.1, c.with_last.ensures.there found.0 found.2)
 
 pub returns-else-is_open-clause-ends : goal.returns-else-is_open-clause-ends
 returns-else-is_open-clause-ends c =
-    let lines = steps c.args.self.now.line.items in
-    let seen = steps c.args.self.now.seen.items in
-    let path = c.match-place.path in
-    let same : tip (step_at lines seen path.1) (steps path.0.items)
-    ≡ step_at lines seen c.args.place = elim c.match-place.branch [
-      | in-Seen w ↦ rw (w.path-is, w.in-Seen.is) w.path.ensures.tip
-      | in_default w ↦ rw (w.path-is, w.new.ensures) refl
-    ] in
-    let found = ends_at _ _ (subst (λ (p : Place). tip (step_at lines seen p) (steps path.0.items)
-    ≡ step_at lines seen c.args.place) c.in-Nowhere.is same)
-    (tip_there None (steps path.0.items) (inr (steps_some _ (search rules)))) in
-    (found.0, found.1, tip_some (slice_get lines 0) (steps path.0.items) found.0 found.2)
+    let first = slice_get (steps c.args.self.now.line.items) 0 in
+    let path = steps c.match-place.path.0.items in
+    let same = leads (goal.at.returns-else-is_open-clause-ends c).Joined-place in
+    let found = ends_at _ _ (rw c.in-Nowhere.is at same)
+    (tip_there None path (inr (steps_some _ (search rules)))) in
+    (found.0, found.1, tip_some first path found.0 found.2)

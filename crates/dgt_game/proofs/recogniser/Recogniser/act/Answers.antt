@@ -1,4 +1,4 @@
-use Rattle.{std.{proofs.Common.{rules, arith, ◌≡◌, inl, subst, Bool, true, None}, specs.Prelude.{IfSome, MatchOption}}, dgt_game.specs.{declared.resting.Task.{Task}, Memory.{step_at, steps}}}
+use Rattle.{std.{proofs.Common.{rules, arith, ◌≡◌, inl, subst, true, None}, specs.Prelude.{IfSome, MatchOption}}, dgt_game.specs.{declared.resting.Task.{Task}, Memory.{step_at, steps}}}
 use Rattle.dgt_game.{specs.{Planning.{TaskFits}, Reading.{Shows}, Standing.{IsCalledFor, StandsAt}}, proofs.{Finding.{found_by_search, found_ended, found_placed}, Standing.{if_some, match_more}}}
 use Rattle.dgt_game.proofs.{Standing.{shows_at}, Sure.{here_sure}}
 use Rattle.dgt_game.proofs.recogniser.Recogniser.act.Goals as goal
@@ -7,8 +7,8 @@ pub returns-in-Tell-clause-stands : goal.returns-in-Tell-clause-stands
 returns-in-Tell-clause-stands c = λ rooted told sure fits stands.
     let self = c.args.self.now in
     let next : self.is_next ≡ true = search (rules, fits) in
-    let at : IfSome self.view (StandsAt self.here self.memory true self.is_sure) = subst (λ (b :
-    Bool). IfSome self.view (StandsAt self.here self.memory b self.is_sure)) next stands.0 in
+    let at : IfSome self.view (StandsAt self.here self.memory true self.is_sure) =
+    rw next at stands.0 in
     let here = if_some self.view _ (λ view. MatchOption (step_at (steps self.memory.line.items)
     (steps self.memory.seen.items) self.here) ⊥ (Shows view)) at (λ view h. shows_at view self.here
     self.memory self.is_sure told (stands.1 told) h) in
@@ -40,6 +40,6 @@ pub returns-in-Tell-clause-sure : goal.returns-in-Tell-clause-sure
 returns-in-Tell-clause-sure c = λ told is fits stands sure shows h.
     let self = c.args.self.now in
     let next : self.is_next ≡ true = search (rules, fits) in
-    let at : IfSome self.view (StandsAt self.here self.memory true self.is_sure) = subst (λ (b :
-    Bool). IfSome self.view (StandsAt self.here self.memory b self.is_sure)) next stands.0 in
+    let at : IfSome self.view (StandsAt self.here self.memory true self.is_sure) =
+    rw next at stands.0 in
     c.tell.ensures.sure sure (here_sure sure self told (stands.1 told) at (shows is)) tt h

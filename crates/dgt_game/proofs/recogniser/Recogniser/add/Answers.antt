@@ -1,6 +1,6 @@
-use Rattle.{std.{proofs.Common.{◌≡◌, ◌∙◌, ap, inl, inr, arith, refl, sym, subst, length, Bool, false, Some}, specs.Prelude.{◌≢◌, IfSome, slice_get}}, dgt_game.specs.declared.node.Node.{Node}}
-use Rattle.dgt_game.specs.{declared.node.{Place.{Place}, Way.{Way}}, Memory.{IsBefore, IsRooted, IsTold, step_at, steps}, Standing.{IsCalledFor, ShowsAs, StandsAt, StandsOn}}
-use Rattle.dgt_game.proofs.{Chains.{before_later, below_some, get_step}, Standing.{but_as, found_of, of_some, resting, same_some, shows_as, shows_but, shows_moved, some_view}, Sure.{parent_sure}}
+use Rattle.dgt_game.{proofs.Chains.{same_some, before_later, get_step}, specs.{declared.node.{Node.{Node}, Place.{Place}, Way.{Way}}, Memory.{IsBefore, IsRooted, IsTold, step_at, steps}}}
+use Rattle.dgt_game.{specs.Standing.{IsCalledFor, ShowsAs, StandsAt, StandsOn}, proofs.{Standing.{but_as, found_of, of_some, resting, shows_as, shows_but, shows_moved, some_view}, Sure.{parent_sure}}}
+use Rattle.std.{proofs.{lemmas.Option.{slice_get_within}, Common.{◌≡◌, ◌∙◌, ap, inl, inr, arith, refl, sym, length, false, Some}}, specs.Prelude.{◌≢◌, slice_get}}
 use Rattle.dgt_game.proofs.recogniser.Recogniser.add.Goals as goal
 
 pub returns-then-is_answer-clause-stands : goal.returns-then-is_answer-clause-stands
@@ -23,8 +23,9 @@ returns-then-is_answer-clause-stands c = λ view ready seen.
     ∙ whole.2 in
     let answers = c.is_answer.ensures.follows c.if-is_answer.true in
     let before : IsBefore (length lines) (length items) new.step.parent =
-    before_later (length lines) k (length items) new.step.parent (let within = below_some items k
-    new.step at in omega (arith, within)) (rooted k new.step at) in
+    before_later (length lines) k (length items) new.step.parent
+    (let within = slice_get_within items k new.step at in omega (arith, within))
+    (rooted k new.step at) in
     let found = found_of lines items new.step.parent before answers.1 in
     let main : ShowsAs view node → _ = λ shown. c.tell.ensures.stands (
       (push.back ∙ ready.0.0, push.unsaid ∙ ready.0.1),
@@ -42,8 +43,7 @@ returns-then-is_answer-clause-stands c = λ view ready seen.
     let next : c.tell.new.self.is_next ≡ false = c.tell.ensures.todo.2 in (
       λ shows. main (shows_as view node shows),
       λ shown. let all = main shown in (
-        subst (λ (b : Bool). IfSome c.tell.new.self.view (StandsAt c.tell.new.self.here
-            c.tell.new.self.memory b c.tell.new.self.is_sure)) next all.0,
+        rw next at all.0,
         all.1,
         elim all.2 [
           | inl told ↦ inl told
@@ -71,7 +71,8 @@ returns-then-is_answer-clause-answers c = λ ready.
     c.in-Some-seen_node.ensures) in
     let answers = c.is_answer.ensures.follows c.if-is_answer.true in
     let before = before_later (length (steps m.line.items)) k (length items) new.step.parent
-    (let within = below_some items k new.step at in omega (arith, within)) (rooted k new.step at) in
+    (let within = slice_get_within items k new.step at in omega (arith, within))
+    (rooted k new.step at) in
     let found = found_of (steps m.line.items) items new.step.parent before answers.1 in
     inr (of_some c.tell.new.self.memory.answer new (λ (n : Node). n.step.way ≢ Way.Begun)
     (c.tell.ensures.answers found.0 (
@@ -105,7 +106,7 @@ returns-else-self-clause-stands c = λ view ready seen.
       λ shown. resting m told none (some_view view _ (StandsAt (Place.Seen c.in-Some.k) m false
           is_sure) seen (of_some (slice_get items c.in-Some.k) _ (StandsOn false is_sure view)
           kept.1 (
-            (λ e. absurd (let wrong : ⊥ = cc in wrong)),
+            (λ e. absurd (cc)),
             λ sure next. but_as view node
                 node.is_held refl shown,
           ))),

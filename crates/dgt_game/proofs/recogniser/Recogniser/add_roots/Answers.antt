@@ -1,4 +1,4 @@
-use Rattle.{std.proofs.Common.{◌∙◌, arith, subst, sym}, dgt_game.specs.{declared.memory.Memory.{Memory}, Reading.{FollowsSeen}}}
+use Rattle.std.proofs.Common.{◌∙◌, arith}
 use Rattle.dgt_game.proofs.recogniser.Recogniser.add_roots.Goals as goal
 
 pub returns-clause-holds : goal.returns-clause-holds
@@ -16,7 +16,7 @@ returns-clause-kept c = λ few picture seen.
     let room = c.make_room.ensures in
     let first = c.add_root.ensures in
     let one = first.kept (omega (arith, few, room.few)) picture
-    (subst (λ (m : Memory). FollowsSeen m picture) (sym (room.kept (omega (arith, few)))) seen) in
+    (rw (room.kept (omega (arith, few))) seen) in
     c.add_root-2.ensures.kept
     (omega (arith, few, room.few, first.few (omega (arith, few, room.few)))) picture one
 

@@ -1,5 +1,4 @@
-use Rattle.{std.proofs.Common.{rules, ◌∙◌, arith, sym, subst, Option}, dgt_game.{specs.{declared.node.{Place.{Place}, Step.{Step}}, Memory.{Links, steps}}, proofs.Chains.{below_some}}}
-use Rattle.dgt_game.proofs.Told.{links_after}
+use Rattle.{std.proofs.{lemmas.Option.{slice_get_within}, Common.{rules, ◌∙◌, arith}}, dgt_game.{specs.{declared.node.Place.{Place}, Memory.{steps}}, proofs.Told.{links_after}}}
 use Rattle.dgt_game.proofs.recogniser.Recogniser.add_two.Goals as goal
 
 pub returns-clause-holds : goal.returns-clause-holds
@@ -8,12 +7,7 @@ returns-clause-holds c = λ shown line back unsaid reads holds.
     let next = c.args.second.step in
     let after = links_after c.args.first.step next seen.0 (Place.Seen c.in-Some.k) reads.2 in
     c.add.ensures.holds shown line (c.push.ensures.back ∙ back) (c.push.ensures.unsaid ∙ unsaid) (
-      subst (λ (o : Option Step). Links o (record {
-        state = next.state;
-        is_turned = next.is_turned;
-        way = next.way;
-        parent = Place.Seen c.in-Some.k;
-      })) (sym seen.1) after,
+      rw seen.1 after,
       reads.3,
     )
     (c.push.ensures.holds shown line back unsaid reads.0 reads.1 holds)
@@ -42,7 +36,7 @@ returns-clause-here c = λ few room.
     let items = steps c.push.new.self.seen.items in
     let kept = c.in-Some.ensures.seen in
     let more = c.push.ensures.few (omega (arith, few)) in
-    c.add.ensures.here (omega (arith, few, more)) (below_some items c.in-Some.k _ kept.1)
+    c.add.ensures.here (omega (arith, few, more)) (slice_get_within items c.in-Some.k _ kept.1)
 
 pub returns-clause-lost : goal.returns-clause-lost
 returns-clause-lost c = λ nowhere. let (found, told) = c.add.ensures.lost nowhere in

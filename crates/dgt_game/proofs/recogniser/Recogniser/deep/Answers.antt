@@ -1,5 +1,4 @@
-use Rattle.{std.proofs.{Common.{arith, ◌≡◌, ℕ, inl, inr, subst}, lemmas.Bool.{cases_lt}}, dgt_values.specs.Board.{pieces_of}, dgt_game.specs.{declared.node.Place.{Place}, Finding.{MayJump}}}
-use Rattle.dgt_game.specs.Reading.{HasLine}
+use Rattle.{std.proofs.{Common.{arith, ◌≡◌, inl, inr}, lemmas.Bool.{cases_lt}}, dgt_values.specs.Board.{pieces_of}, dgt_game.specs.Finding.{MayJump}}
 use Rattle.dgt_game.proofs.recogniser.Recogniser.deep.Goals as goal
 
 pub loop-halves-preserved : goal.loop-halves-preserved
@@ -14,8 +13,7 @@ loop-halves-preserved c =
         | inr after ↦
             let now : count ≡ halves = omega (arith, less, after) in
             c.or_unordered-other.ensures.second (c.deep_by-found.ensures.reads live behind
-            (omega (arith, some, now)) (omega (arith, c.loop-halves-test.true))
-            (subst (λ (n : ℕ). HasLine n c.args.self.now.memory (Place.Line 0) pieces) now line))
+            (omega (arith, some, now)) (omega (arith, c.loop-halves-test.true)) (rw now at line))
       ],
       c.or_unordered-other.ensures.room c.loop-halves.invariant.2 c.deep_by-found.ensures.room,
     )

@@ -1,8 +1,7 @@
-use Rattle.{std.{proofs.Common.{rules, true, ◌≡◌, ◌<◌, ap, inr, sym, subst, refl, arith, None, Some, Option}, specs.Prelude.{IfSome}}, dgt_game.specs.declared.event.Event.{Event}}
-use Rattle.dgt_game.specs.{declared.{recogniser.Recogniser.{Recogniser}, resting.Next.{Next}}, Finding.{FindsLater}, Planning.{IsPlanned, todo}, Timing.{Due, HasTask, next_time}}
-use Rattle.dgt_game.proofs.{Planning.{hopeless_stays, nothing_left, planned_quiet, planned_then, plans_with, todo_most}, Finding.{shown_then}, Timing.{acts_with, follows_then, idle_in_doubt}}
-use Rattle.dgt_game.proofs.{Timing.{idle_stays, no_time, one_more, quiet_now, told_now}, recogniser.Recogniser.due.Goals.{then-done-lt2, else-done-lt2}}
-use Rattle.{std.{proofs.Common.{◌∙◌}, specs.Prelude.{Contains, MatchOption}}, dgt_values.specs.Board.{pieces_of}, dgt_game.specs.declared.view.View.{View}}
+use Rattle.{std.{proofs.Common.{rules, true, ◌≡◌, ◌<◌, ap, inr, sym, refl, arith, None, Some, ◌∙◌}, specs.Prelude.{IfSome}}, dgt_game.specs.declared.recogniser.Recogniser.{Recogniser}}
+use Rattle.dgt_game.{specs.{Planning.{IsPlanned, todo}, Timing.{Due, HasTask, next_time}}, proofs.Planning.{hopeless_stays, nothing_left, planned_quiet, planned_then, plans_with, todo_most}}
+use Rattle.dgt_game.proofs.{Finding.{shown_then}, Timing.{acts_with, follows_then, idle_in_doubt, idle_stays, no_time, one_more, quiet_now, told_now}, recogniser.Recogniser.due.Goals.{then-done-lt2}}
+use Rattle.dgt_game.proofs.recogniser.Recogniser.due.Goals.{else-done-lt2}
 use Rattle.dgt_game.proofs.recogniser.Recogniser.due.Goals as goal
 
 pub returns-in-Some-clause-idle : goal.returns-in-Some-clause-idle
@@ -17,8 +16,7 @@ returns-in_err-at-clause-due c =
     let new = c.report.new.self in
     let none : c.from_residual.result ≡ None = search rules in
     let idle : IfSome (next_time new) (λ at. c.args.now < at) = search rules in
-    subst (λ (r : Option Event). Due c.args.now c.args.self.now r new) (sym none)
-    (c.loop-done.invariant.due None new
+    rw none (c.loop-done.invariant.due None new
     (quiet_now c.args.now c.loop-done.self new c.in_default.ensures.tells idle))
 
 pub returns-in_err-at-clause-idle : goal.returns-in_err-at-clause-idle
@@ -81,11 +79,10 @@ loop-done-preserved c =
           let fits = c.in_ok-at.ensures.fits (planned_quiet self quiet same plans) in
           let less = act.todo fits in
           let before : todo quiet ≡ todo self = ap (λ (r : Recogniser). todo r) same in
-          let P : Option Next → Type 0 = λ n. IsPlanned (record c.act.new.self { next = n }) in
           let next : IsPlanned new = elim c.if-done-lt2.branch [
-            | then-done-lt2 w ↦ subst P (sym w.self-is) (plans_with c.act.new.self
+            | then-done-lt2 w ↦ rw w.self-is (plans_with c.act.new.self
                 w.plan-self.result w.plan-self.result w.plan-self.ensures.plans)
-            | else-done-lt2 w ↦ subst P (sym w.self-is) (inr (nothing_left c.act.new.self
+            | else-done-lt2 w ↦ rw w.self-is (inr (nothing_left c.act.new.self
                 (omega (arith, less, before, most, w.if-done-lt2.false))))
           ] in
           (next, omega (arith, less, before, most));
@@ -96,8 +93,8 @@ loop-done-preserved c =
           let same = c.in_default.ensures.planned in
           let fits = c.in_ok-at.ensures.fits (planned_quiet self quiet same
           (c.loop-done.invariant.planned plans).0) in
-          let then = act.found fits (subst FindsLater (sym same)
-          (c.loop-done.invariant.found few plans lost h)) in (then.0, then.1);
+          let then = act.found fits (rw same (c.loop-done.invariant.found few plans lost h)) in
+          (then.0, then.1);
       hopeless = λ h. act.hopeless (hopeless_stays self quiet c.in_default.ensures.place
           (c.loop-done.invariant.hopeless h));
       stands = λ shown line knows plans h.
@@ -112,8 +109,7 @@ loop-done-preserved c =
           let now = c.in_default.ensures.sure sure
           (c.loop-done.invariant.sure shown line knows plans h sure were) in
           let kept = act.shown in (
-            (λ e. subst (λ (o : Option View). MatchOption o ⊥ (λ view.
-                Contains sure (pieces_of view.shown))) (sym kept.0) (now.0 (sym kept.2 ∙ e))),
+            (λ e. rw kept.0 (now.0 (sym kept.2 ∙ e))),
             act.sure is.0 is_sure
                 (c.in_ok-at.ensures.fits (planned_quiet self quiet c.in_default.ensures.planned
                 (c.loop-done.invariant.planned plans).0))

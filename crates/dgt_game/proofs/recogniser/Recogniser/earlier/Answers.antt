@@ -1,5 +1,6 @@
-use Rattle.{std.proofs.{Common.{rules, arith, ◌≡◌, ◌∙◌, ◌<◌, ℕ, true, false, inl, inr, sym, subst, length, slice_index_or}, lemmas.Bool.{cases_lt}}, dgt_values.specs.Board.{pieces_of}}
-use Rattle.dgt_game.{specs.{declared.node.Place.{Place}, Reading.{ShowsAt}}, proofs.Pictures.{at_least, not_shown, one_node, read_at, shown_at, shown_back, shown_within, shows_line}}
+use Rattle.std.{specs.Prelude.{slice_get}, proofs.{Common.{rules, arith, ◌≡◌, ◌∙◌, ◌<◌, true, false, inl, inr, sym, length, slice_index_or}, lemmas.Bool.{cases_lt}}}
+use Rattle.dgt_game.{proofs.{Chains.{same_some}, Pictures.{at_least, not_shown, read_at, shown_at, shown_back, shown_within, shows_line}}, specs.{declared.node.Place.{Place}, Reading.{ShowsAt}}}
+use Rattle.dgt_values.specs.Board.{pieces_of}
 use Rattle.dgt_game.proofs.recogniser.Recogniser.earlier.Goals as goal
 
 pub returns-then-is-clause-at : goal.returns-then-is-clause-at
@@ -8,12 +9,11 @@ returns-then-is-clause-at c =
     let node = c.index-deref-k.result in
     let other = c.index-deref-k-in-loop-k.result in
     let k = c.loop-k.k in
-    let size : c.len-k-end.result ≡ length line = search rules in
-    let less : k < length line = omega (arith, size, c.loop-k-test.true) in
+    let less : k < length line = grind arith in
     let first : node ≡ slice_index_or line k node = search rules in
     let second : other ≡ slice_index_or line k other = search rules in
     let at = read_at line k node less first in
-    let same = one_node line k other node (read_at line k other less second) at in
+    let same = same_some (slice_get line k) other node (read_at line k other less second) at in
     shows_line c.args.self.now.memory c.args.view.now k node at
     (shown_at (slice_index_or c.deref.result.now k node)
     (slice_index_or c.deref-in-loop-k.result.now k other) node
@@ -28,12 +28,11 @@ loop-k-preserved c = λ j some less here.
     let node = c.index-deref-k.result in
     let other = c.index-deref-k-in-loop-k.result in
     let k = c.loop-k.k in
-    let size : c.len-k-end.result ≡ length line = search rules in
-    let within : k < length line = omega (arith, size, c.loop-k-test.true) in
+    let within : k < length line = grind arith in
     let first : node ≡ slice_index_or line k node = search rules in
     let second : other ≡ slice_index_or line k other = search rules in
     let at = read_at line k node within first in
-    let same = one_node line k node other at (read_at line k other within second) in
+    let same = same_some (slice_get line k) node other at (read_at line k other within second) in
     elim (cases_lt j k) [
       | inl before ↦ c.loop-k.invariant j some before here
       | inr after ↦
@@ -44,8 +43,7 @@ loop-k-preserved c = λ j some less here.
           (slice_index_or c.deref-in-loop-k.result.now k other) node (pieces_of view.shown)
           c.index-deref-k.is (same ∙ c.index-deref-k-in-loop-k.is) shown) in
           let unseen : c.is.result ≡ false = c.if-is.false in
-          let wrong : ⊥ = cc in wrong)
-          (subst (λ (n : ℕ). ShowsAt self view (Place.Line n)) now here)
+          cc) (rw now at here)
     ]
 
 pub returns-then-is-clause-reads : goal.returns-then-is-clause-reads

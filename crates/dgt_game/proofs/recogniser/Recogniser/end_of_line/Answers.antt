@@ -1,5 +1,4 @@
-use Rattle.{std.{proofs.{Common.{◌≡◌, Some, List, length, refl, sym, subst}, lemmas.Option.{IfSome_then, slice_get_read}}, specs.Prelude.{slice_get}}, dgt_game.specs.declared.node.Node.{Node}}
-use Rattle.dgt_game.{specs.{declared.recogniser.Over.{Over}, Waiting.{EndsBy}}, proofs.Chains.{get_step}}
+use Rattle.{std.{proofs.{Common.{◌≡◌, Some, length, refl}, lemmas.Option.{IfSome_then, slice_get_read}}, specs.Prelude.{slice_get}}, dgt_game.proofs.Chains.{get_step}}
 use Rattle.dgt_game.proofs.recogniser.Recogniser.end_of_line.Goals as goal
 
 pub returns : goal.returns
@@ -9,10 +8,9 @@ returns c =
     let look = c.in_ok-node.ensures.lookup in
     let line = c.deref.result.now in
     let at : slice_get self.memory.line.items 0 ≡ Some node =
-    subst (λ (nodes : List Node). slice_get nodes 0 ≡ Some node) c.deref.ensures.0
-    (slice_get_read line (length line) 0 node refl look.3.0 look.1) in
+    rw c.deref.ensures.0 at (slice_get_read line (length line) 0 node refl look.3.0 look.1) in
     IfSome_then c.end_by_rules.result c.end_by_rules.ensures (λ end h. (
       node.step,
       get_step self.memory.line.items 0 node at,
-      subst (λ (over : Over). EndsBy over self.view node.step end.0) (sym h.0) h.1,
+      rw h.0 h.1,
     ))

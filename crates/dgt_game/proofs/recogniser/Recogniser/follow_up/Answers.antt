@@ -1,34 +1,24 @@
-use Rattle.{std.proofs.{Common.{rules, ◌≡◌, ◌∙◌, [], Some, None, ap, subst, sym}, lemmas.Option.{IfSome_then}}, dgt_game.specs.declared.{event.GameResult.{GameResult}, node.Step.{Step}}}
-use Rattle.dgt_game.{specs.{declared.recogniser.{Over.{Over}, Recogniser.{Recogniser}}, Memory.{IsTold}, Standing.{EndsHere, Stands}, Waiting.{EndWaits}}, proofs.Standing.{ends_of, meant_stands}}
-use Rattle.dgt_game.{specs.Waiting.{EndsBy, coming}, proofs.{Known.{knows_same, memory_of, view_of}, Waiting.{last_comes, or_some}, recogniser.Recogniser.follow_up.Goals.{in_default, in-Begun}}}
+use Rattle.{std.proofs.{Common.{rules, ◌≡◌, ◌∙◌, [], Some, None, ap, subst}, lemmas.Option.{IfSome_then}}, dgt_game.specs.declared.{event.GameResult.{GameResult}, node.Step.{Step}}}
+use Rattle.dgt_game.{specs.{declared.recogniser.{Over.{Over}, Recogniser.{Recogniser}}, Memory.{IsTold}, Standing.{EndsHere}, Waiting.{EndWaits, EndsBy, coming}}, proofs.Standing.{ends_of}}
+use Rattle.dgt_game.proofs.{Standing.{meant_stands}, Known.{knows_same, memory_of, view_of}, Waiting.{last_comes, or_some}, recogniser.Recogniser.follow_up.Goals.{Joined-event, in_default, in-Begun}}
 use Rattle.dgt_game.proofs.recogniser.Recogniser.follow_up.Goals as goal
+
+-- only whether the line is over may change
+kept : (c : Joined-event) → (memory_of c.match-event.self ≡ memory_of c.args.self.now)
+    × (view_of c.match-event.self ≡ view_of c.args.self.now)
+kept c = elim c.match-event.branch [
+  | in_default w ↦ (ap memory_of w.self-is, ap view_of w.self-is)
+  | in-Begun w ↦ (ap memory_of w.self-is, ap view_of w.self-is)
+]
 
 pub returns-else-is_quiet-clause-knows : goal.returns-else-is_quiet-clause-knows
 returns-else-is_quiet-clause-knows c = λ shown line h.
-    let memory = elim c.match-event.branch as (λ _. memory_of c.match-event.self
-    ≡ c.args.self.now.memory) [
-      | in_default w ↦ ap memory_of w.self-is
-      | in-Begun w ↦ ap memory_of w.self-is
-    ] in
-    let view = elim c.match-event.branch as (λ _. view_of c.match-event.self
-    ≡ c.args.self.now.view) [
-      | in_default w ↦ ap view_of w.self-is
-      | in-Begun w ↦ ap view_of w.self-is
-    ] in
+    let (memory, view) = kept (goal.at.returns-else-is_quiet-clause-knows c).Joined-event in
     knows_same shown line c.args.self.now c.match-event.self memory view h
 
 pub returns-then-is_quiet-clause-knows : goal.returns-then-is_quiet-clause-knows
 returns-then-is_quiet-clause-knows c = λ shown line h.
-    let memory = elim c.match-event.branch as (λ _. memory_of c.match-event.self
-    ≡ c.args.self.now.memory) [
-      | in_default w ↦ ap memory_of w.self-is
-      | in-Begun w ↦ ap memory_of w.self-is
-    ] in
-    let view = elim c.match-event.branch as (λ _. view_of c.match-event.self
-    ≡ c.args.self.now.view) [
-      | in_default w ↦ ap view_of w.self-is
-      | in-Begun w ↦ ap view_of w.self-is
-    ] in
+    let (memory, view) = kept (goal.at.returns-then-is_quiet-clause-knows c).Joined-event in
     let told = c.is_quiet.ensures.0 c.if-is_quiet.true in
     c.stand_on_last.ensures.stays shown line told
     (knows_same shown line c.args.self.now _ memory view h)
@@ -58,11 +48,11 @@ pub returns-else-is_quiet-clause-stands : goal.returns-else-is_quiet-clause-stan
 returns-else-is_quiet-clause-stands c = λ meant back.
     let waits : IsTold c.match-event.self.memory → ⊥ = λ told. search (rules, told) in
     elim c.match-event.branch [
-      | in_default w ↦ subst Stands (sym w.self-is) (meant_stands c.args.self.now meant back
+      | in_default w ↦ rw w.self-is (meant_stands c.args.self.now meant back
           (subst (λ
           (s : Recogniser). IsTold s.memory → s.memory.answer ≡ None) w.self-is (λ told. absurd
           (waits told))))
-      | in-Begun w ↦ subst Stands (sym w.self-is) (meant_stands (record c.args.self.now {
+      | in-Begun w ↦ rw w.self-is (meant_stands (record c.args.self.now {
         over = Over.No;
       }) meant back (subst (λ (s : Recogniser). IsTold s.memory → s.memory.answer ≡ None)
           w.self-is (λ told. absurd (waits told))))
@@ -71,7 +61,7 @@ returns-else-is_quiet-clause-stands c = λ meant back.
 pub returns-then-is_quiet-clause-stands : goal.returns-then-is_quiet-clause-stands
 returns-then-is_quiet-clause-stands c = λ meant back.
     let ends : EndsHere c.match-event.self = elim c.match-event.branch [
-      | in_default w ↦ subst EndsHere (sym w.self-is) (ends_of c.args.self.now meant)
-      | in-Begun w ↦ subst EndsHere (sym w.self-is) (ends_of c.args.self.now meant)
+      | in_default w ↦ rw w.self-is (ends_of c.args.self.now meant)
+      | in-Begun w ↦ rw w.self-is (ends_of c.args.self.now meant)
     ] in
     c.stand_on_last.ensures.stands (c.is_quiet.ensures.0 c.if-is_quiet.true) ends

@@ -24,10 +24,10 @@ loop-at-preserved c =
     (c.from_small.ensures.small (omega (arith, c.loop-at-test.true))) c.get.ensures.piece in
     below_more (λ k. piece_at picture k ≢ piece_of c.args.colour Man.King) at c.loop-at.invariant
     (λ same. let wrong = c.is_same.ensures.1 (sym is ∙ same ∙ sym c.king.ensures) in
-    absurd (let no : ⊥ = cc in no))
+    absurd (cc))
 
 pub returns : goal.returns
 returns c = (
-  λ no. absurd (let wrong : ⊥ = cc in wrong),
+  λ no. absurd (cc),
   λ h. absurd (c.loop-at.invariant h.0 (omega (arith, h.1, c.loop-at-test.false)) h.2),
 )

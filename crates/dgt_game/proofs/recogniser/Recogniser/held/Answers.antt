@@ -1,5 +1,4 @@
-use Rattle.{std.proofs.Common.{ap, length, subst, sym}, dgt_values.specs.Board.{pieces_of}, dgt_game.{specs.{declared.node.Step.{Step}, Memory.{IsBefore, steps}}, proofs.Chains.{found_before}}}
-use Rattle.dgt_game.proofs.Hands.{held}
+use Rattle.{std.proofs.Common.{ap}, dgt_values.specs.Board.{pieces_of}, dgt_game.{specs.{declared.node.Step.{Step}, Memory.{steps}}, proofs.{Chains.{found_before}, Hands.{held}}}}
 use Rattle.dgt_game.proofs.recogniser.Recogniser.held.Goals as goal
 
 pub returns-then-is_held-clause-linked : goal.returns-then-is_held-clause-linked
@@ -14,6 +13,6 @@ pub returns-then-is_held-clause-room : goal.returns-then-is_held-clause-room
 returns-then-is_held-clause-room c = λ near.
     let line = steps c.args.self.now.memory.line.items in
     let seen = steps c.args.self.now.memory.seen.items in
-    subst (IsBefore (length line) (length seen)) (sym (ap (λ (s : Step). s.parent)
-    c.follow.ensures.step)) (found_before line seen c.args.place c.in_ok-from.from.step near
+    rw (ap (λ (s : Step). s.parent) c.follow.ensures.step)
+    (found_before line seen c.args.place c.in_ok-from.from.step near
     c.in_ok-from.ensures)

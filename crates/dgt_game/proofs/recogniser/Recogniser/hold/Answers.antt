@@ -1,5 +1,5 @@
-use Rattle.{std.{proofs.Common.{sym, subst, false}, specs.Prelude.{slice_get}}, dgt_game.specs.{declared.{node.Place.{Place}, recogniser.Recogniser.{Recogniser}}, Memory.{steps, Holds}}}
-use Rattle.dgt_game.{specs.Standing.{Stands, StandsAt, StandsOn}, proofs.{Standing.{but_moved, held_lacks, of_some, resting, some_view}, recogniser.Recogniser.hold.Goals.{in-Some, in-None}}}
+use Rattle.{std.{proofs.Common.{false}, specs.Prelude.{slice_get}}, dgt_game.{specs.{declared.node.Place.{Place}, Memory.{steps}, Standing.{StandsAt, StandsOn}}, proofs.Standing.{but_moved}}}
+use Rattle.dgt_game.proofs.{Standing.{held_lacks, of_some, resting, some_view}, recogniser.Recogniser.hold.Goals.{in-Some, in-None}}
 use Rattle.dgt_game.proofs.recogniser.Recogniser.hold.Goals as goal
 
 pub returns-clause-stands : goal.returns-clause-stands
@@ -11,19 +11,17 @@ returns-clause-stands c = λ view ready seen held.
           let is_sure = c.args.self.now.is_sure in
           let k = w.in-Some.k in
           let found = w.in-Some.ensures in
-          subst (λ (self : Recogniser). Stands (record self { is_next = false })) (sym w.self-is)
-          (resting m ready.0 ready.1 (some_view view _ (StandsAt
+          rw w.self-is (resting m ready.0 ready.1 (some_view view _ (StandsAt
           (Place.Seen k) m false is_sure) seen
           (of_some (slice_get (steps m.seen.items) k) found.0
           (StandsOn false is_sure view) found.1 (
-            (λ e. absurd (let wrong : ⊥ = cc in wrong)),
+            (λ e. absurd (cc)),
             λ sure next. but_moved view
                 c.args.node.step found.0 found.2 found.3 lacks,
           ))))
       | in-None w ↦
-          subst (λ (self : Recogniser). Stands (record self { is_next = false })) (sym w.self-is)
-          ((w.add.ensures.stands view ready seen).1 (
-            (λ e. absurd (let wrong : ⊥ = cc in wrong)),
+          rw w.self-is ((w.add.ensures.stands view ready seen).1 (
+            (λ e. absurd (cc)),
             λ e.
                 lacks,
           ))
@@ -31,7 +29,6 @@ returns-clause-stands c = λ view ready seen held.
 
 pub returns-clause-holds : goal.returns-clause-holds
 returns-clause-holds c = λ shown line back unsaid reads h. elim c.match-same_node.branch [
-  | in-Some w ↦ subst (λ (self : Recogniser). Holds shown line self.memory) (sym w.self-is) h
-  | in-None w ↦ subst (λ (self : Recogniser). Holds shown line self.memory) (sym w.self-is)
-      (w.add.ensures.holds shown line back unsaid reads h)
+  | in-Some w ↦ rw w.self-is h
+  | in-None w ↦ rw w.self-is (w.add.ensures.holds shown line back unsaid reads h)
 ]

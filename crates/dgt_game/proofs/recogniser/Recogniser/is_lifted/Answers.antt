@@ -1,11 +1,11 @@
-use Rattle.std.{proofs.{Common.{rules, arith, ◌≡◌, ◌<◌, List, Some, below_more, length, slice_get, slice_index_or, refl, sym, ap, subst}, lemmas.Option.{slice_get_within}}, specs.Prelude.{IsTrue}}
-use Rattle.{dgt_values.specs.declared.pieces.Piece.{Piece}, dgt_game.{specs.{declared.node.{Node.{Node}, Step.{Step}}, Memory.{steps}, Planning.{LacksOnly}}, proofs.Planning.{LacksOf, lacks_last}}}
-use Rattle.dgt_game.proofs.{Planning.{lacks_none, lacks_not, lacks_seen, node_of, same_got, step_got}, recogniser.Recogniser.is_lifted.Goals.{in-Some-get+else-lacks_only, in_default-get}}
+use Rattle.dgt_game.{proofs.{Chains.{same_some}, Planning.{LacksOf, lacks_last, lacks_none, lacks_not}}, specs.{Waiting.{last_of}, declared.node.{Node.{Node}, Step.{Step}}, Memory.{steps}}}
+use Rattle.{dgt_game.proofs.{Planning.{lacks_seen, node_of, step_got}, recogniser.Recogniser.is_lifted.Goals.{in-Some-get+else-lacks_only, in_default-get}}, std.proofs.Common.{rules, arith, ◌≡◌}}
+use Rattle.std.proofs.{Common.{List, Some, below_more, length, slice_get, slice_index_or, refl, sym, ap, subst}, lemmas.Option.{slice_get_within}}
 use Rattle.dgt_game.proofs.recogniser.Recogniser.is_lifted.Goals as goal
 
 pub returns-in_default : goal.returns-in_default
 returns-in_default c = (
-  λ no. absurd (let wrong : ⊥ = cc in wrong),
+  λ no. absurd (cc),
   λ h. absurd (lacks_none c.args.self.now.view c.args.self.now.memory (search rules) h),
 )
 
@@ -16,8 +16,7 @@ returns-then-lacks_only c =
     let look = c.in-Some-get.ensures.lookup in
     let at = step_got self.memory.line.items c.deref.result.now 0 node c.deref.ensures.0 look.3.0
     look.1 in
-    let lacks = subst (λ (ps : List Piece). LacksOnly ps node.step.state) c.from.ensures
-    (c.lacks_only.ensures.0 c.if-lacks_only.true) in (
+    let lacks = rw c.from.ensures at (c.lacks_only.ensures.0 c.if-lacks_only.true) in (
       λ yes. lacks_last self.view c.in-Some.view self.memory node.step c.in-Some.is at lacks,
       λ h. refl,
     )
@@ -29,14 +28,10 @@ returns-then-lacks_only-2 c =
     let seen = self.memory.seen.items in
     let node = c.index-deref-k.result in
     let k = c.loop-k.k in
-    let size : c.len-k-end.result ≡ length seen = search rules in
-    let less : k < length seen = omega (arith, size, c.loop-k-test.true) in
-    let read : node ≡ slice_index_or seen k node = search rules in
-    let at = step_got seen seen k node refl less read in
+    let at = step_got seen seen k node refl (grind arith) (search rules) in
     let found = slice_index_or c.deref-in-loop-k.result.now k node in
     let lacks = subst (λ (n : Node). LacksOf view n.step) (sym c.index-deref-k.is)
-    (subst (λ (ps : List Piece). LacksOnly ps found.step.state) c.from-in-loop-k.ensures
-    (c.lacks_only-in-loop-k.ensures.0 c.if-lacks_only-2.true)) in (
+    (rw c.from-in-loop-k.ensures at (c.lacks_only-in-loop-k.ensures.0 c.if-lacks_only-2.true)) in (
       λ yes. lacks_seen self.view view self.memory k node.step c.in-Some.is at lacks,
       λ h. refl,
     )
@@ -47,20 +42,15 @@ loop-k-preserved c =
     let seen = c.args.self.now.memory.seen.items in
     let node = c.index-deref-k.result in
     let k = c.loop-k.k in
-    let size : c.len-k-end.result ≡ length seen = search rules in
-    let less : k < length seen = omega (arith, size, c.loop-k-test.true) in
-    let read : node ≡ slice_index_or seen k node = search rules in
-    let at = step_got seen seen k node refl less read in
+    let at = step_got seen seen k node refl (grind arith) (search rules) in
     let found = slice_index_or c.deref-in-loop-k.result.now k node in
-    let both = subst (λ (ps : List Piece). LacksOnly ps found.step.state
-    → IsTrue c.lacks_only-in-loop-k.result) c.from-in-loop-k.ensures
-    c.lacks_only-in-loop-k.ensures.1 in
+    let both = rw c.from-in-loop-k.ensures at c.lacks_only-in-loop-k.ensures.1 in
     below_more (λ n. (step : Step) → slice_get (steps seen) n ≡ Some step
     → ¬ (LacksOf view step)) k c.loop-k.invariant (λ step e lacks.
-    let same = same_got (steps seen) k step node.step e at in
+    let same = same_some (slice_get (steps seen) k) step node.step e at in
     let wrong = both (subst (λ (n : Node). LacksOf view n.step) c.index-deref-k.is
     (subst (LacksOf view) same lacks)) in
-    absurd (let no : ⊥ = cc in no))
+    absurd (cc))
 
 pub returns : goal.returns
 returns c =
@@ -68,19 +58,18 @@ returns c =
     let view = c.in-Some.view in
     let seen = self.memory.seen.items in
     let size : c.len-k-end.result ≡ length seen = search rules in (
-      λ no. absurd (let wrong : ⊥ = cc in wrong),
+      λ no. absurd (cc),
       λ h. absurd (lacks_not self.view view self.memory c.in-Some.is (λ step e. elim
           c.match-get.branch [
             | in-Some-get+else-lacks_only w ↦ (λ lacks.
                 let node = w.in-Some-get.node.now in
                 let look = w.in-Some-get.ensures.lookup in
-                let same = same_got (steps self.memory.line.items) 0 step node.step e
+                let same = same_some (last_of self.memory) step node.step e
                 (step_got self.memory.line.items c.deref.result.now 0 node c.deref.ensures.0
                 look.3.0 look.1) in
-                let both = subst (λ (ps : List Piece). LacksOnly ps node.step.state
-                → IsTrue w.lacks_only.result) w.from.ensures w.lacks_only.ensures.1 in
+                let both = rw w.from.ensures at w.lacks_only.ensures.1 in
                 let wrong = both (subst (LacksOf view) same lacks) in
-                absurd (let no : ⊥ = cc in no))
+                absurd (cc))
             | in_default-get w ↦ (λ lacks.
                 let (node, got, same) = node_of self.memory.line.items 0 step e in
                 let less = slice_get_within self.memory.line.items 0 node got in

@@ -1,5 +1,5 @@
-use Rattle.{std.proofs.{Common.{◌∙◌, length, subst, sym}, lemmas.Option.{IfSome_then}}, dgt_values.specs.Board.{pieces_of}, dgt_game.specs.{Memory.{IsBefore, step_at, steps}, Reading.{SomeLine}}}
-use Rattle.dgt_game.proofs.{Chains.{found_before}, Links.{fits_at, not_begun}, Pictures.{from_here, none_here}}
+use Rattle.{std.proofs.{Common.{◌∙◌}, lemmas.Option.{IfSome_then}}, dgt_values.specs.Board.{pieces_of}, dgt_game.{specs.Memory.{step_at, steps}, proofs.{Chains.{found_before}, Links.{fits_at}}}}
+use Rattle.dgt_game.proofs.{Links.{not_begun}, Pictures.{from_here, none_here}}
 use Rattle.dgt_game.proofs.recogniser.Recogniser.jumped.Goals as goal
 
 pub returns-clause-linked : goal.returns-clause-linked
@@ -23,8 +23,8 @@ returns-in_err-from-clause-reads c = λ some few line.
 pub returns-clause-reads : goal.returns-clause-reads
 returns-clause-reads c = λ some few line.
     let from = c.in_ok-from.from.step in
-    c.jumped_from.ensures.reads some few (subst (SomeLine c.args.halves from.state)
-    (sym c.from.ensures) (from_here (step_at (steps c.args.self.now.memory.line.items)
+    c.jumped_from.ensures.reads some few
+    (rw c.from.ensures (from_here (step_at (steps c.args.self.now.memory.line.items)
     (steps c.args.self.now.memory.seen.items) c.args.place) from c.args.halves
     (pieces_of c.args.view.now.shown) c.in_ok-from.ensures line))
 
@@ -33,5 +33,5 @@ returns-clause-room c = λ near.
     let line = steps c.args.self.now.memory.line.items in
     let seen = steps c.args.self.now.memory.seen.items in
     IfSome_then c.jumped_from.result c.jumped_from.ensures.linked
-    (λ node (parent, turned, by, same). subst (IsBefore (length line) (length seen)) (sym parent)
+    (λ node (parent, turned, by, same). rw parent
     (found_before line seen c.args.place c.in_ok-from.from.step near c.in_ok-from.ensures))

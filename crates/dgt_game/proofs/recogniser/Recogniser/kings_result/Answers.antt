@@ -1,5 +1,5 @@
-use Rattle.std.{proofs.{Common.{rules, arith, ◌≡◌, ◌-◌, ◌<◌, List, Bool, Some, length, slice_index_or, refl, subst}, lemmas.Option.{slice_get_read}}, specs.Prelude.{slice_get}}
-use Rattle.{dgt_values.specs.{declared.pieces.Piece.{Piece}, Board.{pieces_of}}, dgt_game.{specs.{declared.node.Node.{Node}, Results.{KingsMean}, Told.{as_shown}}, proofs.Chains.{get_step}}}
+use Rattle.std.{proofs.{Common.{rules, arith, ◌≡◌, ◌-◌, ◌<◌, Bool, Some, length, slice_index_or, refl, subst}, lemmas.Option.{slice_get_read}}, specs.Prelude.{slice_get}}
+use Rattle.{dgt_values.specs.Board.{pieces_of}, dgt_game.{specs.{Results.{KingsMean}, Told.{as_shown}}, proofs.Chains.{get_step}}}
 use Rattle.dgt_game.proofs.recogniser.Recogniser.kings_result.Goals as goal
 
 pub returns-then-stands-clause-is : goal.returns-then-stands-clause-is
@@ -9,8 +9,7 @@ returns-then-stands-clause-is c =
     let result = c.in_ok-result.result in
     let k = c.len-len.result - 1 - c.loop-at.at in
     let pieces = pieces_of c.args.view.now.shown in
-    let size : c.len-len.result ≡ length seen = search rules in
-    let less : k < length seen = omega (arith, size, c.loop-at-test.true) in
+    let less : k < length seen = grind arith in
     let read : node ≡ slice_index_or seen k node = search rules in
     let at : slice_get seen k ≡ Some node =
     slice_get_read seen (length seen) k node refl less read in
@@ -21,7 +20,7 @@ returns-then-stands-clause-is c =
       get_step seen k node at,
       (
         subst (λ (t : Bool). KingsMean (as_shown t pieces) result) turned
-            (subst (λ (picture : List Piece). KingsMean picture result) c.from-shown.ensures means),
+            (rw c.from-shown.ensures at means),
         c.stands.ensures c.if-stands.true,
       ),
     )
@@ -33,14 +32,13 @@ returns-then-stands-2-clause-is c =
     let last = c.in_ok-last.last.now in
     let result = c.in_ok-result.result in
     let at : slice_get c.args.self.now.memory.line.items 0 ≡ Some last =
-    subst (λ (nodes : List Node). slice_get nodes 0 ≡ Some last) c.deref.ensures.0
-    (slice_get_read line (length line) 0 last refl look.3.0 look.1) in
+    rw c.deref.ensures.0 at (slice_get_read line (length line) 0 last refl look.3.0 look.1) in
     let means = c.in_ok-result.ensures (pieces_of c.from-shown.result.now) c.in_ok-white.ensures
     c.in_ok-black.ensures in (
       last.step,
       get_step c.args.self.now.memory.line.items 0 last at,
       (
-        subst (λ (picture : List Piece). KingsMean picture result) c.from-shown.ensures means,
+        rw c.from-shown.ensures at means,
         c.stands-2.ensures c.if-stands-2.true,
       ),
     )

@@ -1,5 +1,5 @@
-use Rattle.{std.proofs.{Common.{ap, ◌∙◌, length, subst, sym, Option}, lemmas.Option.{IfSome_then}}, dgt_game.specs.{declared.node.Step.{Step}, Memory.{IsBefore, Links, step_at, steps}}}
-use Rattle.{dgt_game.proofs.{Chains.{found_before}, Pictures.{from_here, none_here}}, dgt_values.specs.Board.{pieces_of}}
+use Rattle.{std.proofs.{Common.{ap, ◌∙◌}, lemmas.Option.{IfSome_then}}, dgt_game.{specs.Memory.{step_at, steps}, proofs.{Chains.{found_before}, Pictures.{from_here, none_here}}}}
+use Rattle.dgt_values.specs.Board.{pieces_of}
 use Rattle.dgt_game.proofs.recogniser.Recogniser.made.Goals as goal
 
 pub returns-clause-linked : goal.returns-clause-linked
@@ -7,8 +7,7 @@ returns-clause-linked c =
     let line = steps c.args.self.now.memory.line.items in
     let seen = steps c.args.self.now.memory.seen.items in
     IfSome_then c.next.result c.next.ensures.linked (λ node (parent, link, same). (
-      subst (λ (before : Option Step). Links before node.step)
-          (sym (ap (step_at line seen) parent ∙ c.in_ok-from.ensures)) link,
+      rw (ap (step_at line seen) parent ∙ c.in_ok-from.ensures) link,
       same,
     ))
 
@@ -29,5 +28,5 @@ returns-clause-room c = λ near.
     let line = steps c.args.self.now.memory.line.items in
     let seen = steps c.args.self.now.memory.seen.items in
     IfSome_then c.next.result c.next.ensures.linked (λ node (parent, link, same).
-    subst (IsBefore (length line) (length seen)) (sym parent)
+    rw parent
     (found_before line seen c.args.place c.in_ok-from.from.step near c.in_ok-from.ensures))

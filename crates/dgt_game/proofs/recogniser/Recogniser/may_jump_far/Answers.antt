@@ -1,7 +1,6 @@
-use Rattle.{std.proofs.{Common.{◌≡◌, ◌∙◌, List, arith, false, Some, inl, inr, subst, sym}, lemmas.Bool.{false≢true, Decides.{nat_tests}}}, dgt_values.specs.declared.pieces.Piece.{Piece}}
-use Rattle.{dgt_values.specs.Board.{pieces_of}, dgt_chess.specs.declared.pieces.Colour.{Colour}, dgt_game.specs.{declared.node.{Place.{Place}, Step.{Step}}, Memory.{step_at, steps}}}
-use Rattle.dgt_game.{specs.{Reading.{HasMoved}, Told.{as_shown}, Waiting.{last_of}}, proofs.{Planning.{same_got}, recogniser.Recogniser.may_jump_far.Goals.{then-has_moved, else-has_moved}}}
-use Rattle.dgt_game.proofs.recogniser.Recogniser.may_jump_far.Goals.{then-halves-lt3, else-halves-lt3}
+use Rattle.dgt_game.{proofs.{Chains.{same_some}, recogniser.Recogniser.may_jump_far.Goals.{then-has_moved, else-has_moved, then-halves-lt3}}, specs.{Reading.{HasMoved}, Waiting.{last_of}}}
+use Rattle.{dgt_game.proofs.recogniser.Recogniser.may_jump_far.Goals.{else-halves-lt3}, std.proofs.{Common.{◌≡◌, ◌∙◌, List, arith, false, Some, inl, inr, subst, sym}, lemmas.Bool.{false≢true}}}
+use Rattle.{std.proofs.lemmas.Bool.Decides.{nat_tests}, dgt_values.specs.declared.pieces.Piece.{Piece}, dgt_chess.specs.declared.pieces.Colour.{Colour}}
 use Rattle.dgt_game.proofs.recogniser.Recogniser.may_jump_far.Goals as goal
 
 pub returns-else-have_moved-3 : goal.returns-else-have_moved-3
@@ -11,14 +10,10 @@ returns-else-have_moved-3 c = record {
     | inr (step, last, moved) ↦
         let self = c.args.self.now in
         let node = c.in-Some.node in
-        let at : last_of self.memory ≡ Some node.step = subst (λ (p : Place). step_at (steps
-        self.memory.line.items) (steps self.memory.seen.items) p ≡ Some node.step) place
-        c.in-Some.ensures in
-        let same : step ≡ node.step = same_got (steps self.memory.line.items) 0 step node.step last
-        at in
+        let at : last_of self.memory ≡ Some node.step = rw place at c.in-Some.ensures in
+        let same : step ≡ node.step = same_some (last_of self.memory) step node.step last at in
         let here = λ (colour : Colour). subst (λ (ps : List Piece). HasMoved ps node.step.state
-        colour) (sym c.from-shown.ensures) (subst (λ (s : Step). HasMoved (as_shown s.is_turned
-        (pieces_of c.args.view.now.shown)) s.state colour) same (moved colour)) in
+        colour) (sym c.from-shown.ensures) (rw same at (moved colour)) in
         let no : c.if-has_moved.have_moved ≡ false = elim c.if-halves-lt3.branch [
           | then-halves-lt3 w ↦
               let less = w.if-halves-lt3.true in

@@ -1,6 +1,6 @@
-use Rattle.std.{proofs.{Common.{rules, ◌≡◌, ◌∙◌, Some, Option, false, inl, inr, refl, ap, sym, subst}, lemmas.Option.{MatchOption-at_some, none-some}}, specs.Prelude.{⊤, IfSome}}
-use Rattle.dgt_game.specs.{declared.{event.GameResult.{GameResult}, memory.Memory.{Memory}, node.Step.{Step}, recogniser.{Lost.{Lost}, Over.{Over}}}, Waiting.{EndsBy, coming, has_notice, has_result}}
-use Rattle.dgt_game.{specs.{Finding.{IsFound}, Standing.{IsMeant}}, proofs.{Finding.{found_later}, Standing.{back_moved, meant_moved}, Waiting.{ended_right, last_comes, right_of_line, silent}}}
+use Rattle.std.{proofs.{Common.{rules, ◌≡◌, ◌∙◌, Some, false, inl, inr, refl, ap, sym}, lemmas.Option.{MatchOption-at_some, none-some}}, specs.Prelude.{⊤}}
+use Rattle.dgt_game.specs.{declared.{event.GameResult.{GameResult}, node.Step.{Step}, recogniser.{Lost.{Lost}, Over.{Over}}}, Waiting.{EndsBy, coming, has_notice, has_result}, Standing.{IsMeant}}
+use Rattle.dgt_game.proofs.{Finding.{found_later}, Standing.{back_moved, meant_moved}, Waiting.{ended_right, last_comes, right_of_line, silent}}
 use Rattle.dgt_game.proofs.recogniser.Recogniser.next_event.Goals as goal
 
 pub returns-in-Some-next_event-clause-right : goal.returns-in-Some-next_event-clause-right
@@ -12,9 +12,7 @@ returns-in-Some-next_event-clause-right c = λ h.
     let quiet : has_notice new.lost ≡ false =
     ap (λ (l : Lost). has_notice l) c.follow_up.ensures.lost ∙ c.in_default.ensures.quiet in (
       (
-        c.follow_up.ensures.right (subst (λ (o : Option Step). IfSome self.ended (λ end. (step :
-            Step) × (o ≡ Some step) × EndsBy end.1 self.view step end.0)) (sym
-            next.ensures.coming) waits.0),
+        c.follow_up.ensures.right (rw next.ensures.coming waits.0),
         silent new.lost _ _ quiet,
       ),
       right_of_line new next.event next.ensures.of_line,
@@ -74,8 +72,7 @@ returns-in-Some-next_event-clause-stands c = λ stands.
       | inr meant ↦ meant
     ] in
     c.follow_up.ensures.stands (meant_moved self new event.coming event.answer meant)
-    (back_moved self
-    new event.coming event.less was.3)
+    (back_moved self new event.coming event.less was.3)
 
 pub returns-in-Some-next_event-clause-found : goal.returns-in-Some-next_event-clause-found
 returns-in-Some-next_event-clause-found c = λ lost h.
@@ -97,5 +94,4 @@ returns-clause-found c = λ lost h.
 pub returns-in_err-result-clause-found : goal.returns-in_err-result-clause-found
 returns-in_err-result-clause-found c = λ lost h.
     let self = c.next_before.new.self in
-    subst (λ (m : Memory). IsFound (record self { memory = m; ended = c.take.new.self }))
-    (sym (c.in_default-next_event.ensures.nothing refl)) (c.in_default.ensures.found h)
+    rw (c.in_default-next_event.ensures.nothing refl) (c.in_default.ensures.found h)

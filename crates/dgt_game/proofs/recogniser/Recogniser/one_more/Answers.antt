@@ -1,6 +1,6 @@
-use Rattle.std.{proofs.Common.{rules, arith, ◌≡◌, ◌-◌, ◌+◌, ◌<◌, ℕ, inl, inr, sym, subst, true, false, length, Option, Some, IsSome, slice_index_or}, specs.Prelude.{IfSome, slice_get}}
-use Rattle.{std.proofs.lemmas.Bool.{cases_lt}, dgt_values.specs.Board.{pieces_of}, dgt_game.specs.{declared.node.{Node.{Node}, Origin.{Origin}}, Memory.{Fits}, Reading.{IsRoomFor}}}
-use Rattle.dgt_game.proofs.{Chains.{get_step}, Links.{either}, Pictures.{one_node, read_at}, recogniser.Recogniser.one_more.Goals.{then-not-is_shadow, else-not-is_shadow}}
+use Rattle.dgt_game.{proofs.{Chains.{same_some, get_step}, Links.{either}, Pictures.{read_at}, recogniser.Recogniser.one_more.Goals.{then-not-is_shadow}}, specs.{Memory.{Fits}, Reading.{IsRoomFor}}}
+use Rattle.{dgt_game.proofs.recogniser.Recogniser.one_more.Goals.{else-not-is_shadow}, std.proofs.Common.{rules, arith, ◌≡◌, ◌-◌, ◌+◌, ◌<◌, inl, inr, true, false, length, Some, slice_index_or}}
+use Rattle.{std.{specs.Prelude.{slice_get}, proofs.lemmas.Bool.{cases_lt}}, dgt_values.specs.Board.{pieces_of}}
 use Rattle.dgt_game.proofs.recogniser.Recogniser.one_more.Goals as goal
 
 pub loop-at-preserved : goal.loop-at-preserved
@@ -11,53 +11,46 @@ loop-at-preserved c =
     let here = c.index-deref-len.result in
     let len = c.len-len.result in
     let now = len - 1 - c.loop-at.at in
-    let size : len ≡ length seen = search rules in
-    let less : now < length seen = omega (arith, size, c.loop-at-test.true) in
+    let less : now < length seen = grind arith in
     let read : here ≡ slice_index_or seen now here = search rules in
     let found : slice_get seen now ≡ Some here = read_at seen now here less read in (
       elim c.if-not-is_shadow.branch [
-        | then-not-is_shadow w ↦ subst (λ (o : Option Node). IfSome o (λ node. Fits memory pieces
-            node)) (sym w.best-is) (either (λ node. Fits memory pieces node) w.better-best.result
+        | then-not-is_shadow w ↦ rw w.best-is
+            (either (λ node. Fits memory pieces node) w.better-best.result
             c.loop-at.best w.made.result w.better-best.ensures.linked c.loop-at.invariant.0
             w.made.ensures.linked)
-        | else-not-is_shadow w ↦ subst (λ (o : Option Node). IfSome o (λ node. Fits memory pieces
-            node)) (sym w.best-is) c.loop-at.invariant.0
+        | else-not-is_shadow w ↦ rw w.best-is c.loop-at.invariant.0
       ],
       elim c.if-not-is_shadow.branch [
-        | then-not-is_shadow w ↦ subst (λ (o : Option Node). IfSome o (IsRoomFor memory)) (sym
-            w.best-is) (either (IsRoomFor memory) w.better-best.result c.loop-at.best
+        | then-not-is_shadow w ↦ rw w.best-is
+            (either (IsRoomFor memory) w.better-best.result c.loop-at.best
             w.made.result w.better-best.ensures.linked c.loop-at.invariant.1
-            (w.made.ensures.room (λ k e. absurd (let wrong : ⊥ = cc in wrong))))
-        | else-not-is_shadow w ↦ subst (λ (o : Option Node). IfSome o (IsRoomFor memory)) (sym
-            w.best-is) c.loop-at.invariant.1
+            (w.made.ensures.room (λ k e. absurd (cc))))
+        | else-not-is_shadow w ↦ rw w.best-is c.loop-at.invariant.1
       ],
       λ k node far is known line.
           elim c.if-not-is_shadow.branch [
-            | then-not-is_shadow w ↦ subst (λ (o : Option Node). IsSome o) (sym w.best-is)
-                (elim (cases_lt (k + c.loop-at.at) len) [
-                  | inl less ↦
-                      let same : k ≡ now = omega (arith, less, far) in
-                      let got : slice_get seen now ≡ Some node =
-                      subst (λ (i : ℕ). slice_get seen i ≡ Some node) same is in
-                      w.better-best.ensures.second (w.made.ensures.reads (
-                        node.step,
-                        get_step seen now node got,
-                        line,
-                      ))
-                  | inr before ↦ w.better-best.ensures.first
-                      (c.loop-at.invariant.2 k node before is known line)
-                ])
-            | else-not-is_shadow w ↦ subst (λ (o : Option Node). IsSome o) (sym w.best-is)
-                (elim (cases_lt (k + c.loop-at.at) len) [
-                  | inl less ↦
-                      let same : k ≡ now = omega (arith, less, far) in
-                      let one : node ≡ here = one_node seen now node here
-                      (subst (λ (i : ℕ). slice_get seen i ≡ Some node) same is) found in
-                      let no : c.is_shadow.result ≡ false = c.is_shadow.ensures.reads
-                      (subst (λ (n : Node). ¬ (n.origin ≡ Origin.Shadow)) one known) in
-                      let yes : c.is_shadow.result ≡ true = search rules in
-                      let wrong : ⊥ = cc in absurd wrong
-                  | inr before ↦ c.loop-at.invariant.2 k node before is known line
-                ])
+            | then-not-is_shadow w ↦ rw w.best-is (elim (cases_lt (k + c.loop-at.at) len) [
+              | inl less ↦
+                  let same : k ≡ now = omega (arith, less, far) in
+                  let got : slice_get seen now ≡ Some node = rw same at is in
+                  w.better-best.ensures.second (w.made.ensures.reads (
+                    node.step,
+                    get_step seen now node got,
+                    line,
+                  ))
+              | inr before ↦ w.better-best.ensures.first
+                  (c.loop-at.invariant.2 k node before is known line)
+            ])
+            | else-not-is_shadow w ↦ rw w.best-is (elim (cases_lt (k + c.loop-at.at) len) [
+              | inl less ↦
+                  let same : k ≡ now = omega (arith, less, far) in
+                  let one = same_some (slice_get seen now) node here (rw same at is) found in
+                  let no : c.is_shadow.result ≡ false =
+                  c.is_shadow.ensures.reads (rw one at known) in
+                  let yes : c.is_shadow.result ≡ true = search rules in
+                  absurd (cc)
+              | inr before ↦ c.loop-at.invariant.2 k node before is known line
+            ])
           ],
     )

@@ -1,5 +1,5 @@
-use Rattle.{std.proofs.{Common.{rules, ◌≡◌, ◌∙◌, ap, length, subst, sym}, lemmas.Option.{IfSome_then}}, dgt_values.specs.Board.{pieces_of}, dgt_game.specs.Memory.{IsBefore, step_at, steps}}
-use Rattle.dgt_game.proofs.{Chains.{found_before}, Links.{links, same_told}}
+use Rattle.{std.proofs.{Common.{rules, ◌≡◌, ◌∙◌, ap, sym}, lemmas.Option.{IfSome_then}}, dgt_values.specs.Board.{pieces_of}, dgt_game.{specs.Memory.{step_at, steps}, proofs.Chains.{found_before}}}
+use Rattle.dgt_game.proofs.Links.{links, same_told}
 use Rattle.dgt_game.proofs.recogniser.Recogniser.other_jump.Goals as goal
 
 pub returns-clause-linked : goal.returns-clause-linked
@@ -21,6 +21,6 @@ returns-clause-room c =
     let line = steps c.args.self.now.memory.line.items in
     let seen = steps c.args.self.now.memory.seen.items in
     IfSome_then c.jumped_from.result c.jumped_from.ensures.linked
-    (λ other (parent, turned, by, here). subst (IsBefore (length line) (length seen)) (sym parent)
+    (λ other (parent, turned, by, here). rw parent
     (found_before line seen c.args.place c.in_ok-from.from.step (c.is_far.ensures (search rules))
     c.in_ok-from.ensures))

@@ -1,4 +1,4 @@
-use Rattle.{std.proofs.Common.{inl, inr, subst, sym}, dgt_game.{specs.Reading.{IsRead}, proofs.Pictures.{near_read}}}
+use Rattle.{std.proofs.Common.{inl, inr}, dgt_game.proofs.Pictures.{near_read}}
 use Rattle.dgt_game.proofs.recogniser.Recogniser.read_by_kings.Goals as goal
 
 pub returns-then-has_black-2-clause-linked : goal.returns-then-has_black-2-clause-linked
@@ -16,7 +16,7 @@ returns-then-has_black-clause-reads c = λ known white black.
           | inl one ↦ near_read c.read.result (read.reads one.0 one.1)
           | inr more ↦ elim more [
             | inl two ↦ read.jumps two.0 two.1 two.2
-            | inr last ↦ subst IsRead (sym (read.last last.0 last.1)) tt
+            | inr last ↦ rw (read.last last.0 last.1) tt
           ]
         ]
       ]

@@ -1,5 +1,4 @@
-use Rattle.{std.{proofs.{Common.{◌≡◌, List, Some, length, refl, subst}, lemmas.Option.{slice_get_read}}, specs.Prelude.{slice_get}}, dgt_game.specs.declared.node.Node.{Node}}
-use Rattle.dgt_game.proofs.Pictures.{shows_line}
+use Rattle.{std.{proofs.{Common.{◌≡◌, Some, length, refl}, lemmas.Option.{slice_get_read}}, specs.Prelude.{slice_get}}, dgt_game.proofs.Pictures.{shows_line}}
 use Rattle.dgt_game.proofs.recogniser.Recogniser.read_line.Goals as goal
 
 pub returns-then-not-may_begin-clause-at : goal.returns-then-not-may_begin-clause-at
@@ -8,6 +7,5 @@ returns-then-not-may_begin-clause-at c =
     let line = c.deref.result.now in
     let last = c.in_ok-last.last.now in
     let at : slice_get c.args.self.now.memory.line.items 0 ≡ Some last =
-    subst (λ (nodes : List Node). slice_get nodes 0 ≡ Some last) c.deref.ensures.0
-    (slice_get_read line (length line) 0 last refl look.3.0 look.1) in
+    rw c.deref.ensures.0 at (slice_get_read line (length line) 0 last refl look.3.0 look.1) in
     shows_line c.args.self.now.memory c.args.view.now 0 last at (c.is.ensures.0 c.if-is.true)

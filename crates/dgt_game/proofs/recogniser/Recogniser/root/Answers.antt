@@ -1,6 +1,5 @@
-use Rattle.std.{proofs.{Common.{◌∙◌, sym, subst, ◌≡◌, List, Option, ap, inr, unwrap_or}, lemmas.Option.{MatchOption-at_some}}, specs.Prelude.{⊤, Contains}}
-use Rattle.{dgt_values.specs.{declared.pieces.Piece.{Piece}, Board.{pieces_of}}, dgt_game.specs.{declared.{node.Step.{Step}, view.View.{View}}, Memory.{told_of}, Planning.{IsRefused}}}
-use Rattle.dgt_game.{specs.{Reading.{Shows}, Told.{as_shown}}, proofs.{Links.{is_root, turned_back, was_shown}, Standing.{some_view}}}
+use Rattle.{std.{proofs.{Common.{◌∙◌, sym, subst, ◌≡◌, Option, ap, inr, unwrap_or}, lemmas.Option.{MatchOption-at_some}}, specs.Prelude.{⊤, Contains}}, dgt_values.specs.Board.{pieces_of}}
+use Rattle.dgt_game.{specs.{declared.view.View.{View}, Memory.{told_of}, Planning.{IsRefused}, Told.{as_shown}}, proofs.{Links.{is_root, turned_back, was_shown}, Standing.{some_view}}}
 use Rattle.dgt_game.proofs.recogniser.Recogniser.root.Goals as goal
 
 pub returns-clause-root : goal.returns-clause-root
@@ -14,8 +13,8 @@ returns-clause-root c = λ shown seen.
 pub returns-clause-at : goal.returns-clause-at
 returns-clause-at c =
     let view = c.in_ok-view.view in
-    some_view view c.args.self.now.view _ c.in_ok-view.was (subst (λ (s : Step). Shows view s) (sym
-    c.root-node.ensures) (turned_back _ _ (pieces_of view.shown)
+    some_view view c.args.self.now.view _ c.in_ok-view.was
+    (rw c.root-node.ensures (turned_back _ _ (pieces_of view.shown)
     (c.in_ok-state.ensures.placed ∙ c.from.ensures)))
 
 pub returns-in_err-state-clause-none : goal.returns-in_err-state-clause-none
@@ -25,8 +24,7 @@ returns-in_err-state-clause-none c = λ none view e.
     let same : c.in_ok-view.view ≡ view =
     ap (λ (o : Option View). unwrap_or o view) (sym c.in_ok-view.was ∙ e) in
     inr (subst (λ (v : View). IsRefused (as_shown turned (pieces_of v.shown)) turn) same
-    (subst (λ (ps : List Piece). IsRefused ps turn) c.from.ensures
-    (c.placed.ensures.none c.in_err-state.was)))
+    (rw c.from.ensures at (c.placed.ensures.none c.in_err-state.was)))
 
 pub returns-clause-marked : goal.returns-clause-marked
 returns-clause-marked c = λ sure shows is.
@@ -34,5 +32,5 @@ returns-clause-marked c = λ sure shows is.
     let seen = MatchOption-at_some ⊥ (λ view. Contains sure (pieces_of view.shown)) view
     c.in_ok-view.was (shows is) in
     was_shown sure (told_of c.root-node.result.step) (pieces_of view.shown) seen
-    (subst (λ (s : Step). Shows view s) (sym c.root-node.ensures) (turned_back _ _
+    (rw c.root-node.ensures (turned_back _ _
     (pieces_of view.shown) (c.in_ok-state.ensures.placed ∙ c.from.ensures)))

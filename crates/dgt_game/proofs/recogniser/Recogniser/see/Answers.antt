@@ -1,9 +1,8 @@
-use Rattle.{std.{proofs.Common.{◌≡◌, ◌∙◌, ◌<◌, inl, None, false, length, sym, ap, subst, true, Option}, specs.Prelude.{◌≢◌, Contains, MatchOption}}, dgt_values.specs.Board.{pieces_of}}
-use Rattle.dgt_game.specs.{declared.{node.Place.{Place}, recogniser.Recogniser.{Recogniser}, memory.Memory.{Memory}}, Reading.{FollowsSeen, IsExplained}, Memory.{Holds, IsTold}}
-use Rattle.dgt_game.{specs.{Planning.{WhyHopeless}, Recogniser.{Knows, shown_after}, declared.recogniser.Lost.{Lost}, Finding.{IsFound}}, proofs.Known.{holds_more, knows_more, knows_same, memory_of}}
-use Rattle.dgt_game.{proofs.{Known.{view_of, within_after}, Waiting.{ended_of, lost_of}}, specs.{Settling.{IsAnswered}, Standing.{IsOpen, Stands}, Waiting.{Waits, has_notice, is_sure_sight}}}
-use Rattle.dgt_game.proofs.recogniser.Recogniser.see.Goals.{then-not-is_same_picture, then-not-self, else-not-self, else-not-is_same_picture+else-is_sure-self, in-Sure, in_default}
-use Rattle.dgt_game.{specs.{Sure.{KnowsSure, sure_after}, declared.view.View.{View}}, proofs.{Pictures.{returned_of}, Standing.{match_more}, Sure.{not_sure, were_more, within_sure}}}
+use Rattle.{std.proofs.Common.{◌≡◌, ◌∙◌, inl, None, false, sym, ap, true}, dgt_values.specs.Board.{pieces_of}, dgt_game.specs.{declared.memory.Memory.{Memory}, Recogniser.{Knows, shown_after}}}
+use Rattle.dgt_game.{specs.{declared.recogniser.Lost.{Lost}, Waiting.{Waits}}, proofs.{Known.{holds_more, knows_more, knows_same, memory_of, view_of, within_after}, Waiting.{ended_of, lost_of}}}
+use Rattle.dgt_game.{specs.Waiting.{has_notice, is_sure_sight}, proofs.recogniser.Recogniser.see.Goals.{then-not-is_same_picture, then-not-self, else-not-self}}
+use Rattle.dgt_game.{proofs.{recogniser.Recogniser.see.Goals.{else-not-is_same_picture+else-is_sure-self, in-Sure, in_default}, Pictures.{returned_of}}, specs.Sure.{KnowsSure, sure_after}}
+use Rattle.dgt_game.proofs.{Standing.{match_more}, Sure.{not_sure, were_more, within_sure}}
 use Rattle.dgt_game.proofs.recogniser.Recogniser.see.Goals as goal
 
 pub returns-clause-seen : goal.returns-clause-seen
@@ -19,13 +18,11 @@ returns-clause-seen c = λ done shown line knows.
             | then-not-self w' ↦ ap memory_of w'.self-is
             | else-not-self w' ↦ ap memory_of w'.self-is
           ] in
-          subst (Knows (shown_after sight shown) line) (sym w.self-is)
-          (w.show.ensures.knows (shown_after sight shown) line
+          rw w.self-is (w.show.ensures.knows (shown_after sight shown) line
           (ap (λ (m : Memory). m.back) same ∙ w.leave.ensures.back ∙ back)
           (ap (λ (m : Memory). m.unsaid.items) same ∙ w.leave.ensures.unsaid ∙ unsaid)
           (c.of-view.ensures.seen shown)
-          (subst (Holds (shown_after sight shown) line) (sym same)
-          (holds_more shown (shown_after sight shown) line w.leave.new.self.memory more
+          (rw same (holds_more shown (shown_after sight shown) line w.leave.new.self.memory more
           (w.leave.ensures.holds shown line back unsaid knows.seen knows.held))))
       | else-not-is_same_picture+else-is_sure-self w ↦
           knows_same (shown_after sight shown) line c.args.self.now c.if-not-is_same_picture.self
@@ -53,30 +50,28 @@ returns-clause-right c = λ waits.
           ap (λ (l : Lost). has_notice l) (same_lost ∙ w.leave.ensures.lost) ∙ quiet.1 in
           let none : w.show.new.self.ended ≡ None =
           w.show.ensures.ended ∙ same_ended ∙ w.leave.ensures.keeps.2 ∙ quiet.2 in
-          subst Waits (sym w.self-is) (rw none tt, w.show.ensures.lost silent)
-      | else-not-is_same_picture+else-is_sure-self w ↦ subst Waits (sym w.self-is) waits
+          rw w.self-is (rw none tt, w.show.ensures.lost silent)
+      | else-not-is_same_picture+else-is_sure-self w ↦ rw w.self-is waits
     ] in
     (new.0, new.1)
 
 pub returns-clause-reads : goal.returns-clause-reads
 returns-clause-reads c = λ few explained.
-    let new : IsExplained c.if-not-is_same_picture.self = elim c.if-not-is_same_picture.branch [
+    elim c.if-not-is_same_picture.branch [
       | then-not-is_same_picture w ↦
           let same : memory_of w.if-not-self.self ≡ w.leave.new.self.memory =
           elim w.if-not-self.branch [
             | then-not-self w' ↦ ap memory_of w'.self-is
             | else-not-self w' ↦ ap memory_of w'.self-is
           ] in
-          subst IsExplained (sym w.self-is)
-          (w.show.ensures.reads (subst (λ (m : Memory). length m.seen.items < 23) (sym same)
-          (w.leave.ensures.few few)))
-      | else-not-is_same_picture+else-is_sure-self w ↦ subst IsExplained (sym w.self-is) explained
-    ] in new
+          rw w.self-is (w.show.ensures.reads (rw same (w.leave.ensures.few few)))
+      | else-not-is_same_picture+else-is_sure-self w ↦ rw w.self-is explained
+    ]
 
 pub returns-clause-stands : goal.returns-clause-stands
 returns-clause-stands c = λ shown line knows stands.
     let (back, unsaid) = (c.is_due.ensures.0 c.if-is_due.false).0.0 in
-    let new : Stands c.if-not-is_same_picture.self = elim c.if-not-is_same_picture.branch [
+    elim c.if-not-is_same_picture.branch [
       | then-not-is_same_picture w ↦
           let same : memory_of w.if-not-self.self ≡ w.leave.new.self.memory =
           elim w.if-not-self.branch [
@@ -84,21 +79,20 @@ returns-clause-stands c = λ shown line knows stands.
             | else-not-self w' ↦ ap memory_of w'.self-is
           ] in
           let held = w.leave.ensures.holds shown line back unsaid knows.seen knows.held in
-          subst Stands (sym w.self-is) (w.show.ensures.stands (subst IsOpen (sym same) (
+          rw w.self-is (w.show.ensures.stands (rw same (
             (w.leave.ensures.back ∙ back, w.leave.ensures.unsaid ∙ unsaid),
             w.leave.ensures.answer ∙ stands.1 (back, unsaid),
             held.rooted,
           )))
-      | else-not-is_same_picture+else-is_sure-self w ↦ subst Stands (sym w.self-is) stands
-    ] in
-    new
+      | else-not-is_same_picture+else-is_sure-self w ↦ rw w.self-is stands
+    ]
 
 pub returns-clause-hopeless : goal.returns-clause-hopeless
 returns-clause-hopeless c = λ h.
-    let new : WhyHopeless c.if-not-is_same_picture.self = elim c.if-not-is_same_picture.branch [
-      | then-not-is_same_picture w ↦ subst WhyHopeless (sym w.self-is) w.show.ensures.hopeless
-      | else-not-is_same_picture+else-is_sure-self w ↦ subst WhyHopeless (sym w.self-is) h
-    ] in new
+    elim c.if-not-is_same_picture.branch [
+      | then-not-is_same_picture w ↦ rw w.self-is w.show.ensures.hopeless
+      | else-not-is_same_picture+else-is_sure-self w ↦ rw w.self-is h
+    ]
 
 pub returns-clause-since_seen : goal.returns-clause-since_seen
 returns-clause-since_seen c = λ few view is changed seen.
@@ -110,19 +104,16 @@ returns-clause-since_seen c = λ few view is changed seen.
             | else-not-self w' ↦ ap memory_of w'.self-is
           ] in
           let shown = sym w.show.ensures.shown ∙ sym (ap view_of w.self-is) ∙ is in
-          let stands = w.show.ensures.seen view shown
-          (subst (λ (m : Memory). length m.seen.items < 23) (sym same) (w.leave.ensures.few few))
-          (subst (λ (m : Memory). FollowsSeen m (pieces_of view.shown)) (sym same)
-          (w.leave.ensures.kept few (pieces_of view.shown) seen)) in
-          subst (λ (r : Recogniser). r.here ≢ Place.Nowhere) (sym w.self-is) stands
+          let stands = w.show.ensures.seen view shown (rw same (w.leave.ensures.few few))
+          (rw same (w.leave.ensures.kept few (pieces_of view.shown) seen)) in
+          rw w.self-is stands
       | else-not-is_same_picture+else-is_sure-self w ↦ absurd (changed (ap view_of w.self-is))
     ]
 
 pub returns-clause-answers : goal.returns-clause-answers
 returns-clause-answers c = λ done shown line knows stands.
     let (back, unsaid) = (c.is_due.ensures.0 c.if-is_due.false).0.0 in
-    let new : IsAnswered c.if-not-is_same_picture.self.memory = elim
-    c.if-not-is_same_picture.branch [
+    elim c.if-not-is_same_picture.branch [
       | then-not-is_same_picture w ↦
           let same : memory_of w.if-not-self.self ≡ w.leave.new.self.memory =
           elim w.if-not-self.branch [
@@ -130,24 +121,22 @@ returns-clause-answers c = λ done shown line knows stands.
             | else-not-self w' ↦ ap memory_of w'.self-is
           ] in
           let held = w.leave.ensures.holds shown line back unsaid knows.seen knows.held in
-          subst IsAnswered (sym (ap memory_of w.self-is)) (w.show.ensures.answers
-          (subst IsOpen (sym same) (
+          rw (ap memory_of w.self-is) (w.show.ensures.answers (rw same (
             (w.leave.ensures.back ∙ back, w.leave.ensures.unsaid ∙ unsaid),
             w.leave.ensures.answer ∙ stands.1 (back, unsaid),
             held.rooted,
           )))
-      | else-not-is_same_picture+else-is_sure-self w ↦ subst IsAnswered (sym (ap memory_of
-          w.self-is)) (inl (back, unsaid))
-    ] in
-    new
+      | else-not-is_same_picture+else-is_sure-self w ↦
+          rw (ap memory_of w.self-is) (inl (back, unsaid))
+    ]
 
 pub returns-clause-found : goal.returns-clause-found
 returns-clause-found c = λ h.
-    let new : IsFound c.if-not-is_same_picture.self = elim c.if-not-is_same_picture.branch [
-      | then-not-is_same_picture w ↦ subst IsFound (sym w.self-is) (λ view is nowhere done live
+    elim c.if-not-is_same_picture.branch [
+      | then-not-is_same_picture w ↦ rw w.self-is (λ view is nowhere done live
           fits lines. w.show.ensures.search done)
-      | else-not-is_same_picture+else-is_sure-self w ↦ subst IsFound (sym w.self-is) h
-    ] in new
+      | else-not-is_same_picture+else-is_sure-self w ↦ rw w.self-is h
+    ]
 
 pub returns-clause-sight : goal.returns-clause-sight
 returns-clause-sight c = λ done sure knows.
@@ -172,15 +161,14 @@ returns-clause-sight c = λ done sure knows.
           w.leave.new.self.memory more (w.leave.ensures.sure sure knows.0 knows.1) in
           let seen = λ (e : c.match-matches.matches ≡ true).
           c.of-view.ensures.sure sure (sym is ∙ e) in
-          subst (KnowsSure (sure_after sight sure)) (sym w.self-is) (
-            (λ e. subst (λ (o : Option View). MatchOption o ⊥ (λ view. Contains (sure_after sight
-                sure) (pieces_of view.shown))) (sym show.shown) (seen (sym show.sure ∙ e))),
-            show.were (sure_after sight sure) (subst IsTold (sym same.0)
-                (w.leave.ensures.back ∙ told.0, w.leave.ensures.unsaid ∙ told.1)) seen
+          rw w.self-is (
+            (λ e. rw show.shown (seen (sym show.sure ∙ e))),
+            show.were (sure_after sight sure)
+                (rw same.0 (w.leave.ensures.back ∙ told.0, w.leave.ensures.unsaid ∙ told.1)) seen
                 (rw (same.0, same.1) old),
           )
       | else-not-is_same_picture+else-is_sure-self w ↦
-          subst (KnowsSure (sure_after sight sure)) (sym w.self-is) (
+          rw w.self-is (
             (λ e. match_more c.args.self.now.view _ _ (knows.0 e)
                 (λ view seen. more (pieces_of view.shown) seen)),
             were_more sure (sure_after sight sure) c.args.self.now.returned

@@ -6,8 +6,7 @@ returns-then-is c =
     let seen = c.args.self.now.memory.seen.items in
     let node = c.index-deref-len.result in
     let k = c.len-len.result - 1 - c.loop-at.at in
-    let size : c.len-len.result ≡ length seen = search rules in
-    let less : k < length seen = omega (arith, size, c.loop-at-test.true) in
+    let less : k < length seen = grind arith in
     let read : node ≡ slice_index_or seen k node = search rules in
     record {
       at = shows_seen c.args.self.now.memory c.args.view.now k node

@@ -8,7 +8,7 @@ returns-in-At-Line-clause-stands c = λ view ready seen reads.
     let m = c.args.self.now.memory in
     let line : c.args.reading ≡ Reading.At (Place.Line c.in-At-Line.k) = search rules in
     let at : ShowsAt m view (Place.Line c.in-At-Line.k) =
-    subst (λ (r : Reading). ReadsView m view r) line reads in
+    rw line at reads in
     c.stand_on_line.ensures.stands view ready seen (of_some (slice_get (steps m.line.items)
     c.in-At-Line.k) at.0 (Shows view) at.1 at.2)
 
@@ -17,7 +17,7 @@ returns-in-At-Line-clause-sure c = λ sure view told shown reads begins h.
     let m = c.args.self.now.memory in
     let line : c.args.reading ≡ Reading.At (Place.Line c.in-At-Line.k) = search rules in
     let at : ShowsAt m view (Place.Line c.in-At-Line.k) =
-    subst (λ (r : Reading). ReadsView m view r) line reads in
+    rw line at reads in
     c.stand_on_line.ensures.sure sure told (λ e. rw at.1 (was_shown sure (told_of at.0)
     (pieces_of view.shown) (shown e) at.2)) h
 

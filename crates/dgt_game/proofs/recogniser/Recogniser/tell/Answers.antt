@@ -1,5 +1,5 @@
-use Rattle.{std.{proofs.Common.{◌≡◌, ◌∙◌, ◌⊎◌, ◌≤◌, inl, inr, refl, sym, subst, true, Option, Some}, specs.Prelude.{IfSome}}, dgt_game.specs.declared.{memory.Memory.{Memory}, view.View.{View}}}
-use Rattle.dgt_game.{specs.{Memory.{step_at, steps}, Standing.{IsCalledFor, IsOpen, Lands, ShowsLast}}, proofs.Standing.{back_of, if_some, tells}}
+use Rattle.{std.{proofs.Common.{◌≡◌, ◌∙◌, ◌⊎◌, ◌≤◌, inl, inr, refl, sym, subst, true}, specs.Prelude.{IfSome}}, dgt_game.specs.Standing.{IsCalledFor, IsOpen, Lands, ShowsLast}}
+use Rattle.dgt_game.proofs.Standing.{back_of, if_some, tells}
 use Rattle.dgt_game.proofs.recogniser.Recogniser.tell.Goals as goal
 
 pub returns-clause-stands : goal.returns-clause-stands
@@ -10,9 +10,7 @@ returns-clause-stands c = λ ready sure called.
     let same = sym c.find.ensures.memory in
     let now : IsOpen m = subst IsOpen same ready in
     let seen : IfSome c.find.new.self.view (IsCalledFor m c.args.place c.args.answer) =
-    subst (λ (v : Option View). IfSome v (IsCalledFor m c.args.place c.args.answer)) (sym
-    c.find.ensures.keeps.0) (subst (λ (n : Memory). IfSome c.args.self.now.view (IsCalledFor n
-    c.args.place c.args.answer)) same called) in
+    rw c.find.ensures.keeps.0 (rw same at called) in
     let all = if_some c.find.new.self.view _ (λ view. Lands view new × ((new.back ≤ 4)
     ⊎ ShowsLast view new)) seen (λ view call. tells view m new c.args.place c.args.answer now
     (λ step. told.lands step now.2) (λ step. told.near step now.2) (λ step. told.answer step now.2)
@@ -30,12 +28,10 @@ pub returns-clause-near : goal.returns-clause-near
 returns-clause-near c = λ step ready at.
     let same = sym c.find.ensures.memory in
     let now : IsOpen c.find.new.self.memory = subst IsOpen same ready in
-    c.tell.ensures.near step now.2 (subst (λ (n : Memory). step_at (steps n.line.items) (steps
-    n.seen.items) c.args.place ≡ Some step) same at)
+    c.tell.ensures.near step now.2 (rw same at at)
 
 pub returns-clause-answers : goal.returns-clause-answers
 returns-clause-answers c = λ step ready at other.
     let same = sym c.find.ensures.memory in
     let now : IsOpen c.find.new.self.memory = subst IsOpen same ready in
-    c.tell.ensures.answer step now.2 (subst (λ (n : Memory). step_at (steps n.line.items) (steps
-    n.seen.items) c.args.place ≡ Some step) same at) other
+    c.tell.ensures.answer step now.2 (rw same at at) other
