@@ -1,34 +1,21 @@
 -- Structs and texts of chess have one meaning, and calls leave one result.
-use Rattle.std.{proofs.{Common.{◌≡◌, ◌∙◌, ℕ, ◌<◌, List, ap, arith, inl, inr, refl, rules, subst, sym}, Math.Logic.{∥∥₁_elim}}, specs.Prelude.{Option, Result, Ok, Err, IsTrue, option_map}}
-use Rattle.{dgt_values.specs.{declared.{pieces.Piece.{Piece}, squares.Square.{Square}}, Board.{square_number}}, dgt_chess.specs.declared.{fen.BadFen.{BadFen}, pieces.{Colour.{Colour}, Man.{Man}}}}
-use Rattle.dgt_chess.specs.declared.{possible.{Impossible.{Impossible}, Rights.{Rights}}, san_reader.BadSan.{BadSan}, state.{Move.{Move}, State.{State}}}
-use Rattle.dgt_chess.specs.{Fen.{IsAnyFen, IsFirstWrong, IsShown, ParsesFen, WritesFen, fen_text}, Possible.{RefusedAreImpossible, Refuses}}
-use Rattle.dgt_chess.specs.{Rules.{IsAfter, LegalBy, OneAfter, OneMoveAPicture, StatesArePossible, board}, San.{IsSan, OneMoveAText, OneTextAMove, ParsesSan}}
-use Rattle.{dgt_chess.proofs.{FenLaws.{OnePlacement, one_fen}, Same.{alike, same_move}, Unique.{same_man}}, dgt_c.specs.Chess.{HasParts, HasStatus, IsState, RefusesState, SaysState, reason_status}}
-use Rattle.dgt_c.specs.ChessOnce.{OneFenPut, OneFenRead, OneKind, OneLead, OneMoveStruct, OnePlay, OneSanPut, OneStateStruct, OneStatus, RefusedAreNone, StatusesAre}
-use Rattle.dgt_c.specs.{ChessTexts.{LeavesMove, LeavesState, ReadsSan, fen_reported, san_status}, Slices.{with_text}, declared.header.{DgtChessMove.{DgtChessMove}, DgtChessState.{DgtChessState}}}
-use Rattle.dgt_c.proofs.{ChessLemmas.{OnePiece, of_state, one_move, only_state, one_state, refused_state, same_parts}, OnceLemmas.{pieces_once}}
+use Rattle.std.{proofs.{lemmas.Grind.{common_steps}, Common.{◌≡◌, ◌∙◌, ℕ, ◌<◌, List, ap, arith, inl, inr, refl, rules, sym}, Math.Logic.{∥∥₁_elim}}, specs.Prelude.{Option, Result, Ok, Err}}
+use Rattle.{std.specs.Prelude.{IsTrue, option_map}, dgt_values.specs.{declared.{pieces.Piece.{Piece}, squares.Square.{Square}}, Board.{square_number}}, dgt_chess.specs.declared.fen.BadFen.{BadFen}}
+use Rattle.dgt_chess.specs.declared.{pieces.{Colour.{Colour}, Man.{Man}}, possible.{Impossible.{Impossible}, Rights.{Rights}}, san_reader.BadSan.{BadSan}, state.{Move.{Move}, State.{State}}}
+use Rattle.dgt_chess.specs.{Fen.{IsAnyFen, IsFirstWrong, IsShown, ParsesFen}, Possible.{RefusedAreImpossible, Refuses}, Rules.{IsAfter, LegalBy, OneAfter, OneMoveAPicture}}
+use Rattle.dgt_chess.{specs.{Rules.{StatesArePossible, board}, San.{OneMoveAText, OneTextAMove, ParsesSan}}, proofs.{FenLaws.{OnePlacement, one_fen}, Same.{alike, same_move}}}
+use Rattle.{dgt_chess.proofs.Unique.{same_man}, dgt_c.specs.{Chess.{HasParts, HasStatus, IsState, RefusesState, reason_status}, ChessOnce.{OneFenPut, OneFenRead, OneKind, OneLead}}}
+use Rattle.dgt_c.specs.{ChessOnce.{OneMoveStruct, OnePlay, OneSanPut, OneStateStruct, OneStatus, RefusedAreNone, StatusesAre}, ChessTexts.{ReadsSan}}
+use Rattle.dgt_c.{specs.{declared.header.{DgtChessMove.{DgtChessMove}, DgtChessState.{DgtChessState}}}, proofs.ChessLemmas.{OnePiece, of_state, one_move, only_state, one_state}}
+use Rattle.dgt_c.proofs.{ChessLemmas.{refused_state, same_parts}, OnceLemmas.{pieces_once}}
 
 -- ---- structs
 
 pub one_state_struct : OneStateStruct
-one_state_struct a b state x y = λ i. record {
-  pieces = (x.pieces_said ∙ sym y.pieces_said) i;
-  half_moves = (x.half_moves_said ∙ sym y.half_moves_said) i;
-  number = (x.number_said ∙ sym y.number_said) i;
-  turn = (x.turn_said ∙ sym y.turn_said) i;
-  rights = (x.rights_said ∙ sym y.rights_said) i;
-  passed = (x.passed_said ∙ sym y.passed_said) i;
-  reserved = (x.reserved ∙ sym y.reserved) i;
-}
+one_state_struct a b state x y = search rules
 
 pub one_move_struct : OneMoveStruct
-one_move_struct a b one x y = λ i. record {
-  from = (x.from ∙ sym y.from) i;
-  to = (x.to ∙ sym y.to) i;
-  promotion = (x.promotion ∙ sym y.promotion) i;
-  reserved = (x.reserved ∙ sym y.reserved) i;
-}
+one_move_struct a b one x y = search rules
 
 pub one_kind : OnePiece → OneKind
 one_kind one said is state says =
@@ -53,30 +40,19 @@ reasons_once : OnePiece → (said : DgtChessState) (why other : Impossible) → 
     → RefusesState said other → why ≡ other
 reasons_once one said why other (p, t, r, s, h, n, says, refuses)
     (p', t', r', s', h', n', says', k) =
-    let same = same_parts one said p' p t' t r' r s' s h' h n' n says' says in
+    let same = same_parts one said _ _ _ _ _ _ _ _ _ _ _ _ says says' in
     one_reason why other p t r (option_map square_number s) n refuses
-    (rw (same.pieces, same.turn, same.rights, same.passed, same.number) at k)
+    (rw (same.pieces, same.turn, same.rights, same.passed, same.number) k)
 
 refused_parts : (said : DgtChessState) (why : Impossible) → RefusesState said why → HasParts said
-refused_parts said why (p, t, r, s, h, n, says, refuses) = (p, t, r, s, h, n, says)
+refused_parts said why h = search rules
 
 state_parts : (said : DgtChessState) → IsState said → HasParts said
-state_parts said (state, says) = (
-  board state,
-  state.turn,
-  state.rights,
-  state.passed,
-  state.half_moves,
-  state.number,
-  says,
-)
+state_parts said h = search rules
 
 module _ (one : OnePiece) (refused : RefusedAreImpossible) (possible : StatesArePossible) where
   pub refused_are_none : RefusedAreNone
-  refused_are_none said why h = (
-    refused_parts said why h,
-    refused_state one refused possible said why h,
-  )
+  refused_are_none said why h = search (rules, refused_parts, refused_state)
 
   pub one_status : OneStatus
   one_status said a b (inl (is, e)) (inl (is', e')) = e ∙ sym e'
@@ -87,41 +63,22 @@ module _ (one : OnePiece) (refused : RefusedAreImpossible) (possible : StatesAre
       absurd (refused_state one refused possible said why h is)
   one_status said a b (inr (inl (why, h, e))) (inr (inl (other, h', e'))) =
       e ∙ ap reason_status (reasons_once one said why other h h') ∙ sym e'
-  one_status said a b (inr (inl (why, h, e))) (inr (inr (none, e'))) =
-      absurd (none (refused_parts said why h))
+  one_status said a b (inr (inl x)) (inr (inr y)) = absurd (y.0 (refused_parts said x.0 x.1))
   one_status said a b (inr (inr (none, e))) (inl (is, e')) = absurd (none (state_parts said is))
-  one_status said a b (inr (inr (none, e))) (inr (inl (why, h, e'))) =
-      absurd (none (refused_parts said why h))
+  one_status said a b (inr (inr x)) (inr (inl y)) = absurd (x.0 (refused_parts said y.0 y.1))
   one_status said a b (inr (inr (none, e))) (inr (inr (none', e'))) = e ∙ sym e'
 
--- the reason with a number
-reason_with : (said : DgtChessState) (status : ℕ) (why : Impossible) → 0 < status → status < 8
-    → ((other : Impossible) → status ≡ reason_status other → other ≡ why) → HasStatus said status
-    → RefusesState said why
-reason_with said status why some most only (inl (is, e)) = absurd (omega (arith, some, e))
-reason_with said status why some most only (inr (inl (other, h, e))) =
-    subst (λ (w : Impossible). RefusesState said w) (only other e) h
-reason_with said status why some most only (inr (inr (none, e))) = absurd (omega (arith, most, e))
-
 only_reason : (why other : Impossible) → reason_status why ≡ reason_status other → other ≡ why
-only_reason Impossible.Kings Impossible.Kings e = refl
-only_reason Impossible.Extra Impossible.Extra e = refl
-only_reason Impossible.Pawn Impossible.Pawn e = refl
-only_reason Impossible.Check Impossible.Check e = refl
-only_reason Impossible.Rights Impossible.Rights e = refl
-only_reason Impossible.Passed Impossible.Passed e = refl
-only_reason Impossible.Number Impossible.Number e = refl
-only_reason _ _ e = absurd (omega (arith, e))
+only_reason why other e = search rules
 
 some_reason : (why : Impossible) → (0 < reason_status why) × (reason_status why < 8)
-some_reason Impossible.Kings = (omega arith, omega arith)
-some_reason _ = (omega arith, omega arith)
+some_reason why = search rules
 
 refuses_as : (said : DgtChessState) (why : Impossible) → HasStatus said (reason_status why)
     → RefusesState said why
-refuses_as said why h =
-    let some = some_reason why in
-    reason_with said (reason_status why) why some.0 some.1 (only_reason why) h
+refuses_as said why (inl (is, e)) = absurd (omega (arith, (some_reason why).0, e))
+refuses_as said why (inr (inl (other, h, e))) = rw (only_reason why other e) at h
+refuses_as said why (inr (inr (none, e))) = absurd (omega (arith, (some_reason why).1, e))
 
 done_is : (said : DgtChessState) → HasStatus said 0 → IsState said
 done_is said (inl (is, e)) = is
@@ -129,22 +86,10 @@ done_is said (inr (inl (why, h, e))) = absurd (omega (arith, e, (some_reason why
 done_is said (inr (inr (none, e))) = absurd (omega (arith, e))
 
 member_is : (said : DgtChessState) → HasStatus said 8 → ¬ (HasParts said)
-member_is said (inl (is, e)) = absurd (omega (arith, e))
-member_is said (inr (inl (why, h, e))) = absurd (omega (arith, e, (some_reason why).1))
-member_is said (inr (inr (none, e))) = none
+member_is said h = grind (arith, common_steps, some_reason)
 
 pub statuses_are : StatusesAre
-statuses_are said = (
-  done_is said,
-  refuses_as said Impossible.Kings,
-  refuses_as said Impossible.Extra,
-  refuses_as said Impossible.Pawn,
-  refuses_as said Impossible.Check,
-  refuses_as said Impossible.Rights,
-  refuses_as said Impossible.Passed,
-  refuses_as said Impossible.Number,
-  member_is said,
-)
+statuses_are said = search (rules, done_is, refuses_as, member_is)
 
 -- ---- calls
 
@@ -156,10 +101,8 @@ one_after : OneAfter → (state : State) (one : Move) (man man' : Man) (a b : St
     → IsAfter man' state (square_number one.from) (square_number one.to) one.promotion b → a ≡ b
 one_after after state one man man' a b legal legal' x y =
     let men : man' ≡ man = same_man state.turn man' man (sym legal'.own ∙ legal.own) in
-    let z = subst (λ (m : Man). IsAfter m state (square_number one.from) (square_number one.to)
-    one.promotion b) men y in
-    let same = after man state (square_number one.from) (square_number one.to) one.promotion a b x z
-    in alike a b same.0 same.1 same.2 same.3 same.4 same.5
+    let same = after man state _ _ one.promotion a b x (rw men at y) in
+    alike a b same.0 same.1 same.2 same.3 same.4 same.5
 
 pub one_play : OnePiece → OneAfter → OnePlay
 one_play one after said a b move
@@ -167,22 +110,15 @@ one_play one after said a b move
     (s', o', man', t', says', moves', new', legal', is') =
     let states : s' ≡ s = one_state one said s' s says' says in
     let ones : o' ≡ o = one_move move o' o moves' moves in
-    let All : State → Move → Type 0 = λ s o.
-    LegalBy man' s (square_number o.from) (square_number o.to) o.promotion
-    × IsAfter man' s (square_number o.from) (square_number o.to) o.promotion t' in
-    let all : All s o = subst (λ (o : Move). All s o) ones
-    (subst (λ (s : State). All s o') states (legal', is')) in
-    let same : t' ≡ t = sym (one_after after s o man man' t t' legal all.0 is all.1) in
-    one_state_struct a b t new (subst (λ (t : State). SaysState b t) same new')
+    let same : t' ≡ t = sym (one_after after s o man man' t t' legal
+    (rw (states, ones) at legal') is (rw (states, ones) at is')) in
+    one_state_struct a b t new (rw same at new')
 
 pub one_lead : OnePiece → OneMoveAPicture → OneLead
 one_lead one picture said codes a b (s, p, says, same, x) (s', p', says', same', y) =
     let states : s' ≡ s = one_state one said s' s says' says in
     let pieces : p' ≡ p = pieces_once one p' p (same' ∙ sym same) in
-    let z = rw (states, pieces) at y in
-    let alike = picture s p _ _ _ _ a.promotion b.promotion a.from.small a.to.small b.from.small
-    b.to.small x z in
-    same_move a b alike.0 alike.1 alike.2
+    search (rules, same_move)
 
 -- ---- FEN
 
@@ -191,34 +127,29 @@ module _ (one : OnePiece) (law : OnePlacement) (refused : RefusedAreImpossible)
     (once : (text : List ℕ) (a b : ℕ) → IsFirstWrong IsAnyFen text a → IsFirstWrong IsAnyFen text b
     → a ≡ b)
     (never : (text : List ℕ) (at : ℕ) → IsAnyFen text → ¬ (IsFirstWrong IsAnyFen text at)) where
+  -- no text is that of a state and refused too
+  not_both : (text : List ℕ) (state : State) (fault : BadFen) → ParsesFen text (Ok state)
+      → ¬ (ParsesFen text (Err fault))
+  not_both text state (BadFen.Text field at) x y = never text at (_, _, _, _, _, _, x) y.0
+  not_both text state (BadFen.Impossible why) x (p, t, r, s, h, n, y, refuses) =
+      let same = one_fen law text (board state) p state.turn t state.rights r state.passed s
+      state.half_moves h state.number n x y in
+      ∥∥₁_elim (possible state) (λ x y. absurd x) (λ is. refused why p t r
+      (option_map square_number s) n refuses
+      (rw (same.pieces, same.turn, same.rights, same.square, same.number) at is))
+
   pub parsed_once : (text : List ℕ) (a b : Result State BadFen) → ParsesFen text a
       → ParsesFen text b → a ≡ b
   parsed_once text (Ok a) (Ok b) x y =
       let same = one_fen law text (board a) (board b) a.turn b.turn a.rights b.rights a.passed
       b.passed a.half_moves b.half_moves a.number b.number x y in
       ap Ok (alike a b same.pieces same.turn same.rights same.square same.half_moves same.number)
-  parsed_once text (Ok a) (Err (BadFen.Text field at)) x y =
-      absurd (never text at
-      (board a, a.turn, a.rights, a.passed, a.half_moves, a.number, x) y.0)
-  parsed_once text (Ok a) (Err (BadFen.Impossible why)) x (p, t, r, s, h, n, y, refuses) =
-      let same = one_fen law text (board a) p a.turn t a.rights r a.passed s a.half_moves h a.number
-      n x y in
-      absurd (∥∥₁_elim (possible a) (λ x y. absurd x) (λ is. refused why p t r
-      (option_map square_number s) n refuses
-      (rw (same.pieces, same.turn, same.rights, same.square, same.number) at is)))
-  parsed_once text (Err (BadFen.Text field at)) (Ok b) x y =
-      absurd (never text at
-      (board b, b.turn, b.rights, b.passed, b.half_moves, b.number, y) x.0)
+  parsed_once text (Ok a) (Err fault) x y = absurd (not_both text a fault x y)
+  parsed_once text (Err fault) (Ok b) x y = absurd (not_both text b fault y x)
   parsed_once text (Err (BadFen.Text field at)) (Err (BadFen.Text field' at')) x y =
       let same = once text at at' x.0 y.0 in search rules
   parsed_once text (Err (BadFen.Text field at)) (Err (BadFen.Impossible why)) x
       (p, t, r, s, h, n, y, refuses) = absurd (never text at (p, t, r, s, h, n, y) x.0)
-  parsed_once text (Err (BadFen.Impossible why)) (Ok b) (p, t, r, s, h, n, x, refuses) y =
-      let same = one_fen law text (board b) p b.turn t b.rights r b.passed s b.half_moves h b.number
-      n y x in
-      absurd (∥∥₁_elim (possible b) (λ x y. absurd x) (λ is. refused why p t r
-      (option_map square_number s) n refuses
-      (rw (same.pieces, same.turn, same.rights, same.square, same.number) at is)))
   parsed_once text (Err (BadFen.Impossible why)) (Err (BadFen.Text field at))
       (p, t, r, s, h, n, x, refuses) y = absurd (never text at (p, t, r, s, h, n, x) y.0)
   parsed_once text (Err (BadFen.Impossible why)) (Err (BadFen.Impossible other))
@@ -228,31 +159,18 @@ module _ (one : OnePiece) (law : OnePlacement) (refused : RefusedAreImpossible)
       (one_reason why other p t r (option_map square_number s) n refuses
       (rw (same.pieces, same.turn, same.rights, same.square, same.number) at refuses'))
 
-  left_once : (r : Result State BadFen) (old a b : DgtChessState) → LeavesState r old a
-      → LeavesState r old b → a ≡ b
-  left_once (Ok state) old a b x y = one_state_struct a b state x y
-  left_once (Err fault) old a b x y = x ∙ sym y
-
   pub one_fen_read : OneFenRead
   one_fen_read text old a b x y (r, p, l, e) (r', p', l', e') =
-      let same : r' ≡ r = parsed_once text r' r p' p in (
-        left_once r old a b l (subst (λ (r : Result State BadFen). LeavesState r old b) same l'),
-        e ∙ ap fen_reported (sym same) ∙ sym e',
-      )
+      let same : r' ≡ r = parsed_once text r' r p' p in
+      search (rules, one_state_struct)
 
 shown_once : (state : State) (a b : Option Square) → IsShown state a → IsShown state b → a ≡ b
-shown_once state a b (inl (can, is)) (inl (can', is')) = is ∙ sym is'
-shown_once state a b (inl (can, is)) (inr (cannot, is')) = absurd (cannot can)
-shown_once state a b (inr (cannot, is)) (inl (can, is')) = absurd (cannot can)
-shown_once state a b (inr (cannot, is)) (inr (cannot', is')) = is ∙ sym is'
+shown_once state a b p q = search rules
 
 pub one_fen_put : OnePiece → OneFenPut
-one_fen_put one said old a b (s, text, says, (shown, is, e), f) (s', text', says', w, f') =
+one_fen_put one said old a b (s, text, says, shown, f) (s', text', says', shown', f') =
     let states : s' ≡ s = one_state one said s' s says' says in
-    let w = subst (λ (s : State). WritesFen s text') states w in
-    let same : text ≡ text' =
-    e ∙ ap (fen_text s) (shown_once s shown w.0 is w.1) ∙ sym w.2 in
-    f ∙ ap (λ t. with_text t old) same ∙ sym f'
+    search (rules, shown_once)
 
 -- ---- SAN
 
@@ -261,12 +179,7 @@ one_san_put one law said move old a b (s, o, text, says, moves, is, e)
     (s', o', text', says', moves', is', e') =
     let states : s' ≡ s = one_state one said s' s says' says in
     let ones : o' ≡ o = one_move move o' o moves' moves in
-    let All : State → Move → Type 0 =
-    λ s o. IsSan s (square_number o.from) (square_number o.to) o.promotion text' in
-    let all : All s o = subst (λ (o : Move). All s o) ones
-    (subst (λ (s : State). All s o') states is') in
-    e ∙ ap (λ t. with_text t old) (law s _ _ o.promotion text text' o.from.small o.to.small is all)
-    ∙ sym e'
+    search rules
 
 pub strict_once : OneMoveAText → (state : State) (text : List ℕ) (a b : Result Move BadSan)
     → ParsesSan state text a → ParsesSan state text b → a ≡ b
@@ -278,18 +191,7 @@ strict_once law state text (Ok a) (Err e) x y =
     absurd (y.0 _ _ a.promotion a.from.small a.to.small x)
 strict_once law state text (Err e) (Ok b) x y =
     absurd (x.0 _ _ b.promotion b.from.small b.to.small y)
-strict_once law state text (Err BadSan.NotSan) (Err BadSan.NotSan) x y = refl
-strict_once law state text (Err BadSan.NotSan) (Err BadSan.NoMove) x y = absurd (x.1 y.1)
-strict_once law state text (Err BadSan.NotSan) (Err BadSan.Ambiguous) x y = absurd y.1
-strict_once law state text (Err BadSan.NoMove) (Err BadSan.NotSan) x y = absurd (y.1 x.1)
-strict_once law state text (Err BadSan.NoMove) (Err BadSan.NoMove) x y = refl
-strict_once law state text (Err BadSan.NoMove) (Err BadSan.Ambiguous) x y = absurd y.1
-strict_once law state text (Err BadSan.Ambiguous) (Err e) x y = absurd x.1
-
-move_once : (r : Result Move BadSan) (old a b : DgtChessMove) → LeavesMove r old a
-    → LeavesMove r old b → a ≡ b
-move_once (Ok one) old a b x y = one_move_struct a b one x y
-move_once (Err fault) old a b x y = x ∙ sym y
+strict_once law state text (Err a) (Err b) x y = search rules
 
 pub one_san_read : (Parses : State → List ℕ → Result Move BadSan → Type 0) → OnePiece → OneStatus
     → ((state : State) (text : List ℕ) (a b : Result Move BadSan) → Parses state text a
@@ -299,11 +201,8 @@ pub one_san_read : (Parses : State → List ℕ → Result Move BadSan → Type 
 one_san_read Parses one status law said text old a b x y
     (inl (s, r, says, p, l, e)) (inl (s', r', says', p', l', e')) =
     let states : s' ≡ s = one_state one said s' s says' says in
-    let q = subst (λ (s : State). Parses s text r') states p' in
-    let same : r' ≡ r = law s text r' r q p in (
-      move_once r old a b l (subst (λ (r : Result Move BadSan). LeavesMove r old b) same l'),
-      e ∙ ap san_status (sym same) ∙ sym e',
-    )
+    let same : r' ≡ r = law s text r' r (rw states at p') p in
+    search (rules, one_move_struct)
 one_san_read Parses one status law said text old a b x y
     (inl (s, r, says, p, l, e)) (inr (none, has, same)) = absurd (none (s, says))
 one_san_read Parses one status law said text old a b x y

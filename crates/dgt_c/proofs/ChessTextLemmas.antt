@@ -1,60 +1,32 @@
 -- Texts of states and of moves are ASCII, so a text is wrong from its first other byte on.
 use Prim.Native.Char.{code as ascii}
-use Rattle.std.proofs.{Common.{◌≡◌, ◌≢◌, ◌∙◌, ℕ, suc, ◌+◌, ◌-◌, ◌/◌, ◌%◌, ◌<◌, ◌≤◌, List, [], ◌∷◌, ap, arith, inl, inr, length, refl, subst, sym, take, get_or, rules}, lemmas.Bool.{cases_lt}}
+use Rattle.std.proofs.{Common.{◌≡◌, ◌≢◌, ◌∙◌, ℕ, suc, ◌+◌, ◌<◌, ◌≤◌, List, [], ◌∷◌, ap, arith, inl, inr, length, refl, subst, sym, take, rules}, lemmas.Bool.{cases_lt}}
 use Rattle.std.proofs.lemmas.{Fmt.{IsAscii-decimal}, Grind.{common_steps}, List.{get_or-take, length-take-le, take-take, take_all}, Str.{IsAscii-append, Ascii.{IsAscii-cons, IsAscii-nil}}}
-use Rattle.{std.specs.{Prelude.{Bool, true, false, Option, Some, None, Err, if◌then◌else◌, nat_eq, slice_index}, Str.{IsAscii}}, dgt_values.specs.declared.pieces.Piece.{Piece}}
-use Rattle.{dgt_values.specs.{declared.squares.Square.{Square}, Board.{square_name, square_number}}, dgt_chess.specs.declared.{fen.{BadFen.{BadFen}, FenField.{FenField}}, pieces.Colour.{Colour}}}
-use Rattle.dgt_chess.specs.{declared.{pieces.Man.{Man}, possible.Rights.{Rights}, san_reader.BadSan.{BadSan}, state.State.{State}}, Attacks.{file}, Rules.{board}}
-use Rattle.dgt_chess.specs.{Fen.{HasNoSpace, IsAnyFen, IsDecimal, IsFirstWrong, RefusesFen, Then, field_of, or_hyphen, passed_text, right_text, rights_text, space_count, turn_text}, San.{Fits}}
-use Rattle.dgt_chess.specs.San.{FitsOnly, IsSan, IsSanText, ParsesSan, castling_letter, castling_text, captures, file_letter, is_castling, man_letter, move_text, ordinary_text, promotion_text}
-use Rattle.dgt_chess.{specs.San.{rank_digit, shown, sign_text}, proofs.{Decimals.{decimal_plain}, FieldBytes.{passed_plain, pieces_plain, rights_plain, turn_plain}}}
-use Rattle.dgt_c.proofs.AsciiLemmas.{placement_ascii}
+use Rattle.{std.specs.{Prelude.{Bool, Option, Err, if◌then◌else◌, slice_index}, Str.{IsAscii}}, dgt_values.specs.declared.pieces.Piece.{Piece}}
+use Rattle.{dgt_values.specs.{Board.{square_name}}, dgt_chess.specs.declared.{fen.{BadFen.{BadFen}, FenField.{FenField}}}}
+use Rattle.dgt_chess.specs.{declared.{pieces.Man.{Man}, possible.Rights.{Rights}, san_reader.BadSan.{BadSan}, state.State.{State}}, Fen.{HasNoSpace, IsAnyFen}}
+use Rattle.dgt_chess.specs.{Fen.{IsDecimal, IsFirstWrong, RefusesFen, Then, field_of, rights_text, space_count}, San.{Fits, FitsOnly, IsSan, IsSanText}}
+use Rattle.dgt_chess.specs.San.{ParsesSan, castling_letter, castling_text, file_letter, man_letter, move_text, ordinary_text, promotion_text, rank_digit, shown, sign_text}
+use Rattle.{dgt_chess.proofs.{Decimals.{decimal_plain}, FieldBytes.{passed_plain, pieces_plain, rights_plain, turn_plain}}, dgt_c.proofs.AsciiLemmas.{placement_ascii}}
 
 -- ---- the fields of a FEN
 
 one_ascii : (byte : ℕ) → byte < 128 → IsAscii (byte ∷ [])
 one_ascii byte h = IsAscii-cons byte [] h IsAscii-nil
 
-turn_ascii : (turn : Colour) → IsAscii (turn_text turn)
-turn_ascii Colour.White = one_ascii (ascii "w") (omega arith)
-turn_ascii Colour.Black = one_ascii (ascii "b") (omega arith)
-
-right_ascii : (remains : Bool) (letter : ℕ) → letter < 128 → IsAscii (right_text remains letter)
-right_ascii true letter h = one_ascii letter h
-right_ascii false letter h = IsAscii-nil
-
-hyphen_ascii : (text : List ℕ) → IsAscii text → IsAscii (or_hyphen text)
-hyphen_ascii [] h = one_ascii (ascii "-") (omega arith)
-hyphen_ascii (byte ∷ text) h = h
-
 rights_ascii : (rights : Rights) → IsAscii (rights_text rights)
-rights_ascii rights =
-    let a = right_ascii rights.white_short (ascii "K") (omega arith) in
-    let b = right_ascii rights.white_long (ascii "Q") (omega arith) in
-    let c = right_ascii rights.black_short (ascii "k") (omega arith) in
-    let d = right_ascii rights.black_long (ascii "q") (omega arith) in
-    hyphen_ascii _ (IsAscii-append _ _ (IsAscii-append _ _ (IsAscii-append _ _ a b) c) d)
+rights_ascii rights = search (rules, IsAscii-append, one_ascii, IsAscii-nil)
 
 name_ascii : (square : ℕ) → IsAscii (square_name square)
-name_ascii square =
-    IsAscii-cons (ascii "a" + square % 8) ((ascii "8" - square / 8) ∷ []) (omega arith)
-    (one_ascii (ascii "8" - square / 8) (omega arith))
-
-passed_ascii : (passed : Option Square) → IsAscii (passed_text passed)
-passed_ascii None = one_ascii (ascii "-") (omega arith)
-passed_ascii (Some square) = name_ascii (square_number square)
+name_ascii square = search (rules, IsAscii-cons, IsAscii-nil)
 
 decimal_ascii : (number : ℕ) (text : List ℕ) → IsDecimal number text → IsAscii text
-decimal_ascii number text is =
-    subst IsAscii (sym is.1) (IsAscii-decimal number (omega (arith, is.0)))
+decimal_ascii number text is = search (rules, IsAscii-decimal)
 
 -- two fields, with a space between
 then_ascii : (A B : List ℕ → Type 0) (text : List ℕ) (is : Then A B text) → IsAscii is.first
     → IsAscii is.rest → IsAscii text
-then_ascii A B text is h k =
-    subst IsAscii (sym is.joined)
-    (IsAscii-append is.first (ascii " " ∷ is.rest) h
-    (IsAscii-cons (ascii " ") is.rest (omega arith) k))
+then_ascii A B text is h k = search (rules, IsAscii-append, IsAscii-cons)
 
 fen_ascii : (text : List ℕ) → IsAnyFen text → IsAscii text
 fen_ascii text (pieces, turn, rights, passed, half_moves, number, is) =
@@ -62,11 +34,10 @@ fen_ascii text (pieces, turn, rights, passed, half_moves, number, is) =
     let b = a.is_rest in
     let c = b.is_rest in
     let d = c.is_rest in
-    let P : List ℕ → Type 0 = λ t. IsAscii t in
     then_ascii _ _ text is (placement_ascii is.first pieces is.is_first)
-    (then_ascii _ _ is.rest a (subst P (sym a.is_first) (turn_ascii turn))
-    (then_ascii _ _ a.rest b (subst P (sym b.is_first) (rights_ascii rights))
-    (then_ascii _ _ b.rest c (subst P (sym c.is_first) (passed_ascii passed))
+    (then_ascii _ _ is.rest a (rw a.is_first (search (rules, one_ascii)))
+    (then_ascii _ _ a.rest b (rw b.is_first (rights_ascii rights))
+    (then_ascii _ _ b.rest c (rw c.is_first (search (rules, one_ascii, name_ascii)))
     (then_ascii _ _ c.rest d (decimal_ascii half_moves d.first d.is_first)
     (decimal_ascii number d.rest d.is_rest)))))
 
@@ -81,8 +52,7 @@ no_spaces (byte ∷ text) plain =
 
 more_spaces : (A B : List ℕ → Type 0) (text : List ℕ) (is : Then A B text) (n : ℕ)
     → HasNoSpace is.first → space_count is.rest ≡ n → space_count text ≡ n + 1
-more_spaces A B text is n plain rest =
-    let none = no_spaces is.first plain in grind (arith, common_steps)
+more_spaces A B text is n plain rest = grind (arith, common_steps, no_spaces)
 
 fen_spaces : (text : List ℕ) → IsAnyFen text → space_count text ≡ 5
 fen_spaces text (pieces, turn, rights, passed, half_moves, number, is) =
@@ -90,25 +60,19 @@ fen_spaces text (pieces, turn, rights, passed, half_moves, number, is) =
     let b = a.is_rest in
     let c = b.is_rest in
     let d = c.is_rest in
-    let P : List ℕ → Type 0 = λ t. HasNoSpace t in
     more_spaces _ _ text is 4 (pieces_plain is.first (pieces, is.is_first))
     (more_spaces _ _ is.rest a 3 (turn_plain a.first (turn, a.is_first))
     (more_spaces _ _ a.rest b 2 (rights_plain b.first (rights, b.is_first))
     (more_spaces _ _ b.rest c 1 (passed_plain c.first (passed, c.is_first))
-    (more_spaces _ _ c.rest d 0
-    (subst P (sym d.is_first.1) (decimal_plain half_moves d.is_first.0))
-    (no_spaces d.rest (subst P (sym d.is_rest.1) (decimal_plain number d.is_rest.0)))))))
+    (more_spaces _ _ c.rest d 0 (rw d.is_first.1 (decimal_plain half_moves d.is_first.0))
+    (no_spaces d.rest (rw d.is_rest.1 (decimal_plain number d.is_rest.0)))))))
 
 -- ---- bytes that aren't ASCII
 
 -- a text that agrees with an ASCII one in a byte has an ASCII byte there
 agrees_ascii : (text other : List ℕ) (at : ℕ) → IsAscii other
     → take (at + 1) other ≡ take (at + 1) text → slice_index text at < 128
-agrees_ascii text other at is same =
-    let byte : slice_index other at ≡ slice_index text at =
-    sym (get_or-take (at + 1) other at 0 (omega arith)) ∙ ap (λ l. get_or l at 0) same
-    ∙ get_or-take (at + 1) text at 0 (omega arith) in
-    omega (arith, is at, byte)
+agrees_ascii text other at is same = search (rules, get_or-take)
 
 -- a part up to a byte that isn't ASCII, or up to the end, that is wrong makes the whole wrong
 wrong_in_prefix : (text : List ℕ) (end at : ℕ) → end ≤ length text
@@ -150,11 +114,9 @@ wrong_after text end h top is = (
     right = take end text;
     is = is;
     before = take-take end end text (omega arith);
-    after = λ other is agrees.
-        let low = agrees_ascii text other end (fen_ascii other is) agrees in
-        absurd (omega (arith, low, top));
+    after = search (rules, agrees_ascii, fen_ascii);
   },
-  ap field_of (sym (fen_spaces (take end text) is)),
+  search (rules, fen_spaces),
 )
 
 -- the same for what is reported of a prefix
@@ -163,56 +125,39 @@ pub refused_in_prefix : (text prefix : List ℕ) (field : FenField) (at : ℕ)
     → (length prefix < length text → 128 ≤ slice_index text (length prefix))
     → RefusesFen prefix (BadFen.Text field at) → RefusesFen text (BadFen.Text field at)
 refused_in_prefix text prefix field at h e top (wrong, is) =
-    let P : List ℕ → Type 0 = λ p. IsFirstWrong IsAnyFen p at in
-    let all = wrong_in_prefix text (length prefix) at h top (subst P e wrong) in
+    let all = wrong_in_prefix text (length prefix) at h top
+    (subst (λ p. IsFirstWrong IsAnyFen p at) e wrong) in
     (all.0, is ∙ ap (λ l. field_of (space_count l)) (ap (λ l. take at l) e ∙ all.1))
 
 pub refused_after : (text prefix : List ℕ) → length prefix < length text
     → prefix ≡ take (length prefix) text → 128 ≤ slice_index text (length prefix)
     → IsAnyFen prefix → RefusesFen text (BadFen.Text FenField.Number (length prefix))
-refused_after text prefix h e top is =
-    let P : List ℕ → Type 0 = λ p. IsAnyFen p in
-    wrong_after text (length prefix) h top (subst P e is)
+refused_after text prefix h e top is = wrong_after text _ h top (subst IsAnyFen e is)
 
 -- ---- the parts of a move's text
 
 man_ascii : (man : Man) → IsAscii (man_letter man)
-man_ascii Man.Pawn = IsAscii-nil
-man_ascii Man.Knight = one_ascii (ascii "N") (omega arith)
-man_ascii Man.Bishop = one_ascii (ascii "B") (omega arith)
-man_ascii Man.Rook = one_ascii (ascii "R") (omega arith)
-man_ascii Man.Queen = one_ascii (ascii "Q") (omega arith)
-man_ascii Man.King = one_ascii (ascii "K") (omega arith)
+man_ascii man = search (rules, one_ascii, IsAscii-nil)
 
 shown_ascii : (is : Bool) (byte : ℕ) → byte < 128 → IsAscii (shown is byte)
-shown_ascii true byte h = one_ascii byte h
-shown_ascii false byte h = IsAscii-nil
+shown_ascii is byte h = search (rules, one_ascii, IsAscii-nil)
 
 promotion_ascii : (equals : Bool) (promotion : Option Man)
     → IsAscii (promotion_text equals promotion)
-promotion_ascii equals None = IsAscii-nil
-promotion_ascii equals (Some new) =
-    IsAscii-append _ _ (shown_ascii equals (ascii "=") (omega arith)) (man_ascii new)
+promotion_ascii equals promotion = search (rules, IsAscii-append, man_ascii, one_ascii, IsAscii-nil)
 
 sign_ascii : (sign : _) → IsAscii (sign_text sign)
 sign_ascii sign = search (rules, one_ascii, IsAscii-nil)
 
 letter_ascii : (zero : Bool) → castling_letter zero < 128
-letter_ascii true = omega arith
-letter_ascii false = omega arith
+letter_ascii zero = search rules
 
 long_ascii : (short : Bool) (letter : ℕ) → letter < 128
     → IsAscii (if short then [] else ascii "-" ∷ letter ∷ [])
-long_ascii true letter h = IsAscii-nil
-long_ascii false letter h =
-    IsAscii-cons (ascii "-") (letter ∷ []) (omega arith) (one_ascii letter h)
+long_ascii short letter h = search (rules, one_ascii, IsAscii-nil, IsAscii-cons)
 
 castling_ascii : (letter to : ℕ) → letter < 128 → IsAscii (castling_text letter to)
-castling_ascii letter to h =
-    let long = if nat_eq (file to) 6 then [] else ascii "-" ∷ letter ∷ [] in
-    IsAscii-cons letter (ascii "-" ∷ letter ∷ long) h
-    (IsAscii-cons (ascii "-") (letter ∷ long) (omega arith)
-    (IsAscii-cons letter long h (long_ascii (nat_eq (file to) 6) letter h)))
+castling_ascii letter to h = search (rules, IsAscii-cons, long_ascii)
 
 ordinary_ascii : (style : _) (man : Man) (takes : Bool) (from to : ℕ) (promotion : Option Man)
     → IsAscii (ordinary_text style man takes from to promotion)
@@ -221,60 +166,32 @@ ordinary_ascii style man takes from to promotion =
     let b = shown_ascii style.by_file (file_letter from) (omega arith) in
     let c = shown_ascii style.by_rank (rank_digit from) (omega arith) in
     let d = shown_ascii takes (ascii "x") (omega arith) in
-    let e = name_ascii to in
-    let f = promotion_ascii style.equals promotion in
-    IsAscii-append _ _ (IsAscii-append _ _ (IsAscii-append _ _
-    (IsAscii-append _ _ (IsAscii-append _ _ a b) c) d) e) f
+    search (rules, IsAscii-append, name_ascii, promotion_ascii)
 
 san_text_ascii : (text : List ℕ) → IsSanText text → IsAscii text
-san_text_ascii text (inl (style, man, takes, from, to, promotion, _, _, _, _, is)) =
-    subst IsAscii (sym is) (IsAscii-append _ _
-    (ordinary_ascii style man takes from to promotion) (sign_ascii style.sign))
-san_text_ascii text (inr (style, to, is)) =
-    subst IsAscii (sym is) (IsAscii-append (castling_text (castling_letter style.zero) to)
-    (sign_text style.sign)
-    (castling_ascii (castling_letter style.zero) to (letter_ascii style.zero))
-    (sign_ascii style.sign))
-
-either_ascii : (castles : Bool) (a b : List ℕ) → IsAscii a → IsAscii b
-    → IsAscii (if castles then a else b)
-either_ascii true a b h k = h
-either_ascii false a b h k = k
+san_text_ascii text is =
+    search (rules, IsAscii-append, ordinary_ascii, castling_ascii, letter_ascii, sign_ascii)
 
 move_ascii : (style : _) (man : Man) (pieces : List Piece) (from to : ℕ)
     (promotion : Option Man) → IsAscii (move_text style man pieces from to promotion)
 move_ascii style man pieces from to promotion =
-    IsAscii-append _ _
-    (either_ascii (is_castling man from to) _ _
-    (castling_ascii (castling_letter style.zero) to (letter_ascii style.zero))
-    (ordinary_ascii style man (captures man pieces from to) from to promotion))
-    (sign_ascii style.sign)
+    search (rules, IsAscii-append, castling_ascii, letter_ascii, ordinary_ascii, sign_ascii)
 
 fits_ascii : (state : State) (from to : ℕ) (promotion : Option Man) (text : List ℕ)
     → Fits state from to promotion text → IsAscii text
 unfolding Fits
-fits_ascii state from to promotion text (man, legal, (style, is)) =
-    subst IsAscii (sym is) (move_ascii style man (board state) from to promotion)
+fits_ascii state from to promotion text is = search (rules, move_ascii)
 
 san_ascii : (state : State) (from to : ℕ) (promotion : Option Man) (text : List ℕ)
     → IsSan state from to promotion text → IsAscii text
 unfolding IsSan
-san_ascii state from to promotion text (man, legal, (style, export, is)) =
-    subst IsAscii (sym is) (move_ascii style man (board state) from to promotion)
+san_ascii state from to promotion text is = search (rules, move_ascii)
 
 -- no text of a move has a byte that isn't ASCII
 pub no_san : (state : State) (text : List ℕ) (at : ℕ) → 128 ≤ slice_index text at
     → ParsesSan state text (Err BadSan.NotSan)
-no_san state text at high = (
-  λ from to promotion small goal is.
-      omega (arith, high, san_ascii state from to promotion text is at),
-  λ is. omega (arith, high, san_text_ascii text is at),
-)
+no_san state text at high = search (rules, san_ascii, san_text_ascii)
 
 pub no_fit : (state : State) (text : List ℕ) (at : ℕ) → 128 ≤ slice_index text at
     → FitsOnly state text (Err BadSan.NotSan)
-no_fit state text at high = (
-  λ from to promotion small goal is.
-      omega (arith, high, fits_ascii state from to promotion text is at),
-  λ is. omega (arith, high, san_text_ascii text is at),
-)
+no_fit state text at high = search (rules, fits_ascii, san_text_ascii)

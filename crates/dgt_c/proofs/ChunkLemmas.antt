@@ -1,7 +1,7 @@
 -- The events of a chunk, reported one after another.
 use Rattle.std.proofs.Common.{◌≡◌, ◌↔◌, refl, sym, ap, ◌∙◌, ℕ, ◌+◌, ◌-◌, ◌<◌, ◌≤◌, List, [], ◌∷◌, ◌++◌, append_assoc, append-nil, length, take, drop, set, Some, None, Option, is_some, Bool, true}
 use Rattle.std.proofs.{Common.{false, IsTrue, arith, inl, inr, rules}, Math.Seq.{take-add}, lemmas.{Bool.{cases_lt}, Grind.{flat_map-append, common_steps}, List.{drop-drop, drop-set-lt}}}
-use Rattle.{std.proofs.lemmas.List.{length-append, length-drop, length-set, length-take, map-append, nil_from_length, take-append-drop, take_all, take_more_set}, dgt_decode.specs.Feeding.{FirstEvent}}
+use Rattle.{std.proofs.lemmas.List.{length-append, length-drop, length-set, map-append, nil_from_length, take-append-drop, take_all, take_more_set}, dgt_decode.specs.Feeding.{FirstEvent}}
 use Rattle.dgt_decode.specs.{Feeding.{event_content, event_content_if_any}, Grammar.{Event, Placed, at_place, events, shifted, unfinished_message}, Laws.{EventsAppend, UnfinishedAppend}}
 use Rattle.{dgt_decode.specs.Laws.{UnfinishedIsPart, UnfinishedIsQuiet}, dgt_host.specs.Host.{HostView, IsUnasked, host_after, host_after_event, host_after_events}, dgt_c.specs.Chunks.{GoesOn}}
 use Rattle.dgt_c.specs.{Chunks.{Reports, ReportsEach, UsesUpTo, bodies, each_reported, events_up_to}, Hearing.{flag}, Reported.{body_said, reported_at}, Slices.{overwritten}}
@@ -29,7 +29,7 @@ prefix_nil (x ∷ xs) ys e = absurd cc
 
 -- a prefix of bytes that complete no event completes none
 quiet_prefix : EventsAppend → (s p : List ℕ) → events (s ++ p) ≡ [] → events s ≡ []
-quiet_prefix later s p none = prefix_nil (events s) _ (sym (later s p) ∙ none)
+quiet_prefix later s p none = search (rules, prefix_nil)
 
 -- ---- The first event of the remaining bytes
 
@@ -63,13 +63,7 @@ next_place held chunk i n =
 -- in the chunk it is the number of bytes used then
 place_in_chunk : UnfinishedIsPart → (held chunk : List ℕ) (i n : ℕ) → i ≤ length chunk
     → next_place held chunk i n - length held ≡ i + n
-place_in_chunk part held chunk i n h = omega (
-  arith,
-  h,
-  part (held ++ take i chunk),
-  length-append held (take i chunk),
-  length-take i chunk,
-)
+place_in_chunk part held chunk i n h = grind (arith, common_steps)
 
 one_used : EventsAppend → (held chunk : List ℕ) (i n : ℕ) (event : Event)
     → FirstEvent (unfinished_message (held ++ take i chunk)) (drop i chunk) n (Some event)
@@ -144,8 +138,7 @@ module _ (later : EventsAppend) (held chunk : List ℕ) (old : List DgtEvent)
       let x : Placed = at_place (next_place held chunk used n) event in
       let made = one_used later held chunk used n event first in
       let on = goes_on used count body_len now body before room no_body in
-      let body_same : body ≡ old_body =
-      before.body_is ∙ ap (overwritten old_body) on.1 ∙ overwritten_nothing old_body in
+      let body_same : body ≡ old_body = search (rules, overwritten_nothing) in
       let all_bodies : bodies (events_up_to held chunk used ++ x ∷ []) ≡ body_said (Some event) =
       search (rules, flat_map-append, append-nil) in
       record {
@@ -194,8 +187,7 @@ pub reports_more : (before : ℕ) (host : HostView) (made : List Placed) (report
 reports_more before host [] [] x one are is = (is, tt)
 reports_more before host (y ∷ made) (t ∷ reported) x one are is =
     (are.0, reports_more before (host_after_event host y.event) made reported x one are.1 is)
-reports_more before host [] (t ∷ reported) x one are is = absurd are
-reports_more before host (y ∷ made) [] x one are is = absurd are
+reports_more before host _ _ x one are is = absurd are
 
 abbrev pub host : Hearer
 host = record {
@@ -235,8 +227,7 @@ InChunks K =
     (x : K.S) (bytes more : List ℕ) → K.after (K.after x bytes) more ≡ K.after x (bytes ++ more)
 
 pub fed_in_chunks : UnfinishedAppend → InChunks decoder
-fed_in_chunks still x bytes more =
-    sym (still (x ++ bytes) more) ∙ ap unfinished_message (append_assoc x bytes more)
+fed_in_chunks still x bytes more = search (rules, append_assoc)
 
 -- It has heard `used` bytes and reported `count` events.
 pub record HasHeard (K : Hearer) (x now : K.S) (chunk : List ℕ) (used count : ℕ)
@@ -251,7 +242,7 @@ module _ (K : Hearer) (later : EventsAppend) (x : K.S) (chunk : List ℕ) (old :
   -- Unfinished bytes complete no event.
   no_event : UnfinishedIsQuiet → unfinished_message (K.held x) ≡ K.held x
       → events (K.held x ++ []) ≡ []
-  no_event quiet same = ap events (append-nil (K.held x) ∙ sym same) ∙ quiet.no_event (K.held x)
+  no_event quiet same = search (rules, append-nil)
 
   pub heard_nothing : UnfinishedIsQuiet → unfinished_message (K.held x) ≡ K.held x
       → K.after x [] ≡ x → HasHeard K x x chunk 0 0 old old 0 old_body old_body
@@ -273,25 +264,17 @@ module _ (K : Hearer) (later : EventsAppend) (x : K.S) (chunk : List ℕ) (old :
       → HasHeard K x after chunk (used + n) (count + 1) old (set now count reported) (length said)
       old_body new_body
   one_heard part in_chunks before after used n count body_len now body said new_body None reported
-      has on first hears
-      some
-      is_reported is_said is_body = absurd cc
+      has on first hears some is_reported is_said is_body = absurd cc
   one_heard part in_chunks before after used n count body_len now body said new_body
-      (Some e) reported has on first hears
-      some is_reported is_said is_body =
+      (Some e) reported has on first hears some is_reported is_said is_body =
       let event : Event = event_content e in
       let held : K.held before ≡ unfinished_message (K.held x ++ take used chunk) =
       ap K.held has.heard ∙ K.held_after x (take used chunk) in
       let first_here = rw held at first in
-      let said_here : said ≡ body_said (Some event) = is_said in
-      let body_here : new_body ≡ overwritten body (body_said (Some event)) =
-      is_body ∙ ap (overwritten body) is_said in
-      let y : Placed = at_place (next_place (K.held x) chunk used n) event in
       let made = one_used later (K.held x) chunk used n event first_here in
       let place = place_in_chunk part (K.held x) chunk used n has.read.within in
       record {
-        read = rw (said_here, body_here)
-            (search (rules, one_read));
+        read = rw (is_body, is_said) (search (rules, one_read));
         heard = heard_more in_chunks before after used n has.heard hears;
         reports = search (rules, take_more_set);
       }
@@ -320,5 +303,4 @@ module _ (K : Hearer) (later : EventsAppend) (x : K.S) (chunk : List ℕ) (old :
 
   pub uses_some : UnfinishedIsQuiet → unfinished_message (K.held x) ≡ K.held x → (used : ℕ)
       → UsesUpTo (K.held x) chunk (length old) used → 0 < length chunk → 0 < length old → 0 < used
-  uses_some quiet same used =
-      progress later (K.held x) chunk old old_body used (no_event quiet same)
+  uses_some quiet same used = search (rules, progress, no_event)

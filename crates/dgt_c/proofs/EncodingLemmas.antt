@@ -1,6 +1,6 @@
 -- What a struct of C describes, and what it doesn't.
-use Rattle.std.proofs.{Common.{◌≡◌, ◌≢◌, ◌⊎◌, ◌+◌, refl, ℕ, ◌<◌, ◌≤◌, List, length, map, Option, Some, None, arith, subst, rules}, lemmas.{Grind.{common_steps}, List.Elements.{All-map}}}
-use Rattle.{std.specs.{List.{AllByRecursion}, Prelude.{IfSome, IsTrue, is_some, slice_index_or}}, dgt_values.specs.{Board.{piece_code}, declared.pieces.Piece.{Piece}}}
+use Rattle.std.proofs.{Common.{◌≡◌, ◌≢◌, ◌⊎◌, ◌+◌, refl, ℕ, ◌<◌, ◌≤◌, List, length, map, Option, Some, None, arith, rules}, lemmas.{Grind.{common_steps}, List.Elements.{All-map}}}
+use Rattle.{std.specs.{List.{AllByRecursion}, Prelude.{IfSome, IsTrue, is_some}}, dgt_values.specs.{Board.{piece_code}, declared.pieces.Piece.{Piece}}}
 use Rattle.dgt_message.{specs.{Clock.{ClockState}, Code.{known_total, known_with}, Content.{Content, IsCarried}, declared.known.KnownCode.{KnownCode}}, proofs.Codes.{piece_code-below}}
 use Rattle.dgt_c.specs.{Clocks.{SaysClock}, Encoding.{IsMessageKind, SaysMessage, carried_said, kinds_of_messages}, Reported.{body_apart, carried_reported, message_reported}, Starting.{ArePieces}}
 use Rattle.dgt_c.specs.declared.header.{DgtEvent.{DgtEvent}, TheConstants.{EVENT_DUMP, EVENT_NO_CLOCK, EVENT_OTHER, EVENT_TIMES}}
@@ -9,9 +9,7 @@ use Rattle.dgt_c.specs.declared.header.{DgtEvent.{DgtEvent}, TheConstants.{EVENT
 pub are_pieces : (pieces : List Piece) (codes : List ℕ) → map piece_code pieces ≡ codes
     → ArePieces codes
 are_pieces pieces codes same =
-    subst ArePieces same
-    (All-map (λ (code : ℕ). code < 16) piece_code pieces
-    (λ k d h. piece_code-below (slice_index_or pieces k d)))
+    rw (← same) (All-map (λ (code : ℕ). code < 16) piece_code pieces (λ k d h. piece_code-below _))
 
 -- the kind of a message that is carried unread is that of a serial number or a later one
 carried_least : (known : Option KnownCode) (code : ℕ) (body : List ℕ)
@@ -21,13 +19,12 @@ carried_least known code body = search rules
 -- each message has a kind of messages
 carried_kinds : (known : Option KnownCode) (code : ℕ) (body : List ℕ)
     → IsMessageKind (carried_reported known code body).kind
-carried_kinds None code body = (10, omega arith, refl)
 carried_kinds (Some KnownCode.Serial) code body = (5, omega arith, refl)
 carried_kinds (Some KnownCode.Trademark) code body = (6, omega arith, refl)
 carried_kinds (Some KnownCode.Version) code body = (7, omega arith, refl)
 carried_kinds (Some KnownCode.Battery) code body = (8, omega arith, refl)
 carried_kinds (Some KnownCode.LongSerial) code body = (9, omega arith, refl)
-carried_kinds (Some _) code body = (10, omega arith, refl)
+carried_kinds _ code body = (10, omega arith, refl)
 
 pub message_kinds : (message : Content) → IsMessageKind (message_reported message).kind
 message_kinds (Content.dump pieces) = (0, omega arith, refl)

@@ -25,11 +25,8 @@ module _ (T : RattleType) (x : T.Denot) where
   }
 
   abbrev pub fresh : {M : Type 1} (𝓤 : Ura M) → Clauses 𝓤 fresh_ended
-  fresh 𝓤 κs a = record {
-    ghost = Unit {0};
-    requires = λ _. emp 𝓤;
-    ensures = λ _ r _. fact 𝓤 (r ≡ x);
-  }
+  fresh 𝓤 κs a =
+      record { ghost = Unit {0}; requires = λ _. emp 𝓤; ensures = λ _ r _. fact 𝓤 (r ≡ x) }
 
 module _ (K : Handle) (place_name : Sym) (new : Callee) where
   abbrev T : RattleType

@@ -2,12 +2,11 @@
 use Rattle.std.proofs.Common.{◌≡◌, ℕ, List, [], ◌∷◌, rules}
 use base.{Fraction.{full_share}, Shift.{Keyless}, Stored.{Coded}}
 use mir.Syntax.{Sym, Fn, Local, Body}
-use denote.{Param.{Laws.{Laws}, Send.{IsSend, part_keyless}}, RattleType.{RattleType}, RawPtr.{Ptr, block_ptr, null_ptr, lies_at}, Struct.{Field.{RawPtr-field}, Owning.{Owning, owning, row}}}
+use denote.{Param.{Laws.{Laws}, Send.{IsSend, part_keyless}}, RattleType.{RattleType}, RawPtr.{Ptr, lies_at}, Struct.{Field.{RawPtr-field}, Owning.{Owning, owning, row}}}
 use denote.Struct.{Record.{Record, Also, Done}, Values.{Values}}
 
 lies : (R : RattleType) → IsSend R → (p : Ptr) (x : R.Denot) → Keyless (lies_at R full_share p x)
-lies R s (block_ptr b o) x = part_keyless R s full_share x b o
-lies R s null_ptr x = tt
+lies R s p x = search (rules, part_keyless)
 
 -- the type of the value, the struct's name, and the record D that contracts see, with its fields
 pub record Handle : Type 2 where

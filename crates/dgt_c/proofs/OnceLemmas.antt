@@ -52,14 +52,9 @@ same_report before host x first second p q = search (rules, same_unasked, same_s
 
 pub one_report_each : OneReportEach
 one_report_each before host [] [] [] p q = refl
-one_report_each before host [] [] (s ∷ second) p q = absurd q
-one_report_each before host [] (f ∷ first) second p q = absurd p
-one_report_each before host (x ∷ made) [] second p q = absurd p
-one_report_each before host (x ∷ made) (f ∷ first) [] p q = absurd q
 one_report_each before host (x ∷ made) (f ∷ first) (s ∷ second) p q =
-    ap (λ (e : DgtEvent). e ∷ first) (same_report before host x f s p.0 q.0)
-    ∙ ap (λ (l : List DgtEvent). s ∷ l)
-    (one_report_each before (host_after_event host x.event) made first second p.1 q.1)
+    search (rules, same_report, one_report_each before (host_after_event host x.event) made)
+one_report_each before host _ _ _ p q = search rules
 
 -- ---- commands
 
@@ -85,15 +80,9 @@ module _ (begins : NoWordBeginsAnother) (parts : NoWordBeginsAPart) where
   one_read : (held chunk : List ℕ) (j k : ℕ) (x y : Option EventContent) → j ≤ length chunk
       → k ≤ length chunk → ReadsWord held chunk j x → ReadsWord held chunk k y → (j ≡ k) × (x ≡ y)
   one_read held chunk j k None None f g p q = (p.0 ∙ sym q.0, refl)
+  one_read held chunk j k (Some x) (Some y) f g p q = search (rules, cases_lt, one_event)
   one_read held chunk j k None (Some y) f g p q = absurd (no_part held chunk k y p.1 q)
   one_read held chunk j k (Some x) None f g p q = absurd (no_part held chunk j x q.1 p)
-  one_read held chunk j k (Some x) (Some y) f g p q = elim (cases_lt j k) [
-    | inl less ↦
-        let same = one_event held chunk j k x y (omega (arith, less)) g p q in
-        (same.0, ap Some same.1)
-    | inr late ↦
-        let same = one_event held chunk k j y x late f q p in (sym same.0, ap Some (sym same.1))
-  ]
 
   same_commands : (x y : Option EventContent) (first second : CommandReporting)
       → first.old ≡ second.old → x ≡ y → ReportsCommand x first → ReportsCommand y second
@@ -122,13 +111,8 @@ clocks_are_in_range = (λ said times p. p.1, λ said absence p. p.1)
 pub pieces_once : ((a b : Piece) → piece_code a ≡ piece_code b → a ≡ b) → (xs ys : List Piece)
     → map piece_code xs ≡ map piece_code ys → xs ≡ ys
 pieces_once one [] [] e = refl
-pieces_once one [] (y ∷ ys) e = absurd (cc)
-pieces_once one (x ∷ xs) [] e = absurd (cc)
-pieces_once one (x ∷ xs) (y ∷ ys) e =
-    let first : piece_code x ≡ piece_code y = cc in
-    let rest : map piece_code xs ≡ map piece_code ys = cc in
-    ap (λ (p : Piece). p ∷ xs) (one x y first)
-    ∙ ap (λ (l : List Piece). y ∷ l) (pieces_once one xs ys rest)
+pieces_once one (x ∷ xs) (y ∷ ys) e = search (rules, pieces_once one xs ys)
+pieces_once one _ _ e = absurd cc
 
 pub one_start : ((a b : Piece) → piece_code a ≡ piece_code b → a ≡ b) → OneStart
 one_start one codes clock identity board other p q =
@@ -153,7 +137,7 @@ pub messages_are_read : MessagesAreRead
 messages_are_read said body message says none = none message says
 
 pub refused_commands_stay : RefusedCommandsStay
-refused_commands_stay before after old new reported p = (ap (λ s. s.status) p.0, p.1, p.2)
+refused_commands_stay before after old new reported p = search rules
 
 pub texts_are_shown : TextsAreShown
 texts_are_shown written text old new dots beep before after reported (inl p) =

@@ -119,19 +119,15 @@ acts_done mode Asking.Heartbeat world few free room =
     let first = command_encoding (mode_command mode) in
     let next = command_encoding CommandContent.Dump in
     let last = clock_request mode in
-    let between : WorldView = record world { down = with_bytes world.down first } in
-    acts_and_reading mode (sends (mode_command mode)) (sends CommandContent.Dump) first next world
-    between _ (host_awaiting world.host (Some Kind.Dump))
+    acts_and_reading mode _ _ first next world _ _ _
     (mode_done mode world (room_first world.down first next last room))
-    (dump_done between (few refl) (room_next world.down first next last room)) refl room
+    (dump_done _ (few refl) (room_next world.down first next last room)) refl room
 acts_done mode Asking.Anew world few free room =
     let next = command_encoding (mode_command mode) in
     let last = clock_request mode in
-    let host : HostView = host_awaiting (without_awaited world.host) (Some Kind.Dump) in
-    let between : WorldView = after_writing world host restart_bytes in
-    acts_and_reading mode FaultyContent.Restart (sends (mode_command mode)) restart_bytes next world
-    between _ host (restart_done world (room_first world.down restart_bytes next last room))
-    (mode_done mode between (room_next world.down restart_bytes next last room)) refl room
+    acts_and_reading mode _ _ restart_bytes next world _ _ _
+    (restart_done world (room_first world.down restart_bytes next last room))
+    (mode_done mode _ (room_next world.down restart_bytes next last room)) refl room
 
 -- the bytes at the beginning of a slice
 pub prefix_of : (bytes old new : List ℕ) (written : ℕ) → written ≡ length bytes

@@ -1,14 +1,12 @@
 -- The picture or the clock is promised to heal once there were enough requests since it was
 -- unsettled: one more than the patience.
-use Rattle.{std.proofs.Common.{◌≡◌, ◌⊎◌, inl, inr, ◌+◌, ◌-◌, ◌<◌, ◌≤◌, Bool, true, false, ◌||◌, if◌then◌else◌, Some, refl, ℕ, List, [], ◌∷◌, arith}, dgt_values.specs.declared.kinds.Kind.{Kind}}
-use Rattle.{dgt_follow.specs.{Follower.{asking_of}, Pace.{PaceView, pace_after_asking, pace_at}, declared.asking.Asking.{Asking}}, dgt_host.specs.Host.{awaits_too_many}}
-use Rattle.{dgt_link.specs.{Faults.{FaultyContent, FaultyRuns}, Healing.{IsSane}, View.{WorldView}, declared.acts.Outcome.{Outcome}}, dgt_followed.specs.Followed.{AfterAskings, FollowedRuns}}
-use Rattle.dgt_followed.{specs.Followed.{FollowedStep, FollowedView, Happening, all_done, asking_acts, follower_of}, proofs.Acts.{heartbeat_is_left}}
+use Rattle.std.proofs.{Common.{rules, ◌≡◌, ◌⊎◌, inl, inr, ◌+◌, ◌-◌, ◌<◌, ◌≤◌, Bool, false, ◌||◌, if◌then◌else◌, Some, refl, ℕ, List, [], ◌∷◌, arith}, lemmas.Grind.{common_steps}}
+use Rattle.{dgt_values.specs.declared.kinds.Kind.{Kind}, dgt_follow.specs.{Follower.{asking_of}, Pace.{PaceView, pace_after_asking, pace_at}, declared.asking.Asking.{Asking}}}
+use Rattle.{dgt_host.specs.Host.{awaits_too_many}, dgt_link.specs.{Faults.{FaultyContent, FaultyRuns}, Healing.{IsSane}, View.{WorldView}, declared.acts.Outcome.{Outcome}}}
+use Rattle.dgt_followed.{specs.Followed.{AfterAskings, FollowedRuns, FollowedStep, FollowedView, Happening, all_done, asking_acts, follower_of}, proofs.Acts.{heartbeat_is_left}}
 
 pub neither : (a b : Bool) → (a || b) ≡ false → (a ≡ false) × (b ≡ false)
-neither false false e = (refl, refl)
-neither false true e = cc
-neither true b e = cc
+neither a b e = search rules
 
 -- one request more, with one heartbeat less left
 one_more : (since left patience : ℕ) → 0 < left → since + left ≤ patience
@@ -18,10 +16,7 @@ one_more since left patience some few = omega (arith, some, few)
 left_after : (what : Asking) (now : ℕ) (before after : PaceView)
     → after ≡ pace_after_asking what (pace_at before now) now
     → before.left ≤ before.patience → after.left ≤ after.patience
-left_after Asking.Nothing now before after e few = rw e few
-left_after Asking.Identify now before after e few = rw e few
-left_after Asking.Heartbeat now before after e few = rw e (omega (arith, few))
-left_after Asking.Anew now before after e few = rw e (omega arith)
+left_after what now before after e few = grind (arith, common_steps)
 
 -- It is promised to heal, or the follower has not yet sent enough requests.
 abbrev pub Hope : (WorldView → Type 0) → (FollowedView → ℕ) → FollowedView → Type 0
@@ -42,12 +37,7 @@ module _ (Promised : WorldView → Type 0) (count : FollowedView → ℕ) where
       → count after ≡ (if ends then 0 else count before)
       → (ends ≡ false → Promised before.world → Promised after.world) → Hopes Promised count before
       → Hope Promised count after
-  other_hope true before after patience left since keeps hopes =
-      inr (omega (arith, patience, left, since, hopes.left))
-  other_hope false before after patience left since keeps hopes = elim hopes.hope [
-    | inl promised ↦ inl (keeps refl promised)
-    | inr few ↦ inr (omega (arith, patience, left, since, few))
-  ]
+  other_hope ends before after patience left since keeps hopes = grind (arith, common_steps)
 
   pub heartbeat_hope : (now : ℕ) (before after : FollowedView)
       → asking_of (follower_of before) now ≡ Asking.Heartbeat
@@ -59,9 +49,7 @@ module _ (Promised : WorldView → Type 0) (count : FollowedView → ℕ) where
       let some = heartbeat_is_left (pace_at before.pace now) full now e in
       elim hopes.hope [
         | inl promised ↦ inl (keeps promised)
-        | inr few ↦ inr
-            (rw since
-            (rw pace (one_more (count before) before.pace.left before.pace.patience some few)))
+        | inr few ↦ inr (rw since (rw pace (one_more _ _ _ some few)))
       ]
 
   -- ---- all happenings

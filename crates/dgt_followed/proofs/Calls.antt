@@ -1,5 +1,5 @@
 -- The effects of a follower's calls are happenings to it and to the world of its host.
-use Rattle.std.proofs.{Common.{◌≡◌, ◌<◌, true, false, Ok, refl, sym, ap, ◌∙◌, ℕ, List, [], ◌∷◌, ◌++◌, append_assoc, append-nil, flat_map, length, subst, take, arith, rules}, lemmas.Bool.{false≢true}}
+use Rattle.std.proofs.{Common.{◌≡◌, ◌<◌, true, false, Ok, refl, ◌∙◌, ℕ, List, [], ◌∷◌, ◌++◌, append_assoc, append-nil, flat_map, length, subst, take, arith, rules}, lemmas.Bool.{false≢true}}
 use Rattle.{std.proofs.lemmas.List.{length-append}, dgt_command.specs.{Content.{CommandContent, requested_kind}, Encoding.{EncodesCommand, command_encoding}}, dgt_host.specs.Host.{HostView, Request}}
 use Rattle.{dgt_host.specs.Host.{Sends, awaits_too_many, host_after, host_awaiting}, dgt_follow.specs.{Calls.{Call, follower_after_call}, Follower.{Asks, FollowerView, asking_of, follower_after}}}
 use Rattle.{dgt_follow.specs.{Pace.{KeepsCount, asking_bytes, mode_command, sent_bytes}, declared.asking.UpdateMode.{UpdateMode}}, dgt_link.specs.{Faults.{sends}, Step.{moves_nothing}}}
@@ -49,14 +49,7 @@ hear_happens hosts counts before now count asked some =
     let free = moves_some before.world.up count asked some in (
       (
         Outcome.Done,
-        record {
-          answers = rw free refl;
-          leaves =
-              ap
-              (λ (h : HostView). record before.world
-              { host = h; up = without_first before.world.up count })
-              (hosts (follower_of before) now bytes);
-        },
+        record { answers = rw free refl; leaves = rw (hosts (follower_of before) now bytes) refl },
         record { patience = kept.patience; left = kept.left },
         refl,
         refl,
@@ -94,16 +87,7 @@ mode_happens : (mode : UpdateMode) (before : FollowedView)
       since = count_after (sends (mode_command mode)) before.since;
       clock_since = clock_count_after (sends (mode_command mode)) before.clock_since;
     })
-mode_happens mode before room = (
-  (
-    Outcome.Done,
-    mode_done mode before.world room,
-    record { patience = refl; left = refl },
-    refl,
-    refl,
-  ),
-  (refl, refl),
-)
+mode_happens mode before room = search (rules, mode_done)
 
 -- by these happenings the follower's host is this one and has written these bytes
 abbrev Happen : List TimedHappening → FollowedView → HostView → List ℕ → Type 0
@@ -118,8 +102,7 @@ bytes_of_one command = append-nil (command_encoding command)
 bytes_of_two : (command next : CommandContent)
     → flat_map command_encoding (command ∷ next ∷ [])
     ≡ command_encoding command ++ command_encoding next
-bytes_of_two command next =
-    ap (λ (bytes : List ℕ). command_encoding command ++ bytes) (bytes_of_one next)
+bytes_of_two command next = search (rules, append-nil)
 
 bare_happens : (command : CommandContent) (before : FollowedView)
     → awaits_too_many before.world.host (requested_kind command) ≡ false
@@ -129,16 +112,9 @@ bare_happens : (command : CommandContent) (before : FollowedView)
     (host_awaiting before.world.host (requested_kind command))
     (flat_map command_encoding (command ∷ []))
 bare_happens command before few encodes room =
-    let same = bytes_of_one command in
-    let world : WorldView = before.world in
-    let step = one_happens before command few encodes (subst (HasRoom world.down) same room) in (
-      _,
-      (_, [], [], step, (refl, refl, refl), refl, refl),
-      ap
-          (λ (bytes : List ℕ). after_writing world
-          (host_awaiting world.host (requested_kind command)) bytes) (sym same),
-      refl,
-    )
+    let step = one_happens before command few encodes
+    (subst (HasRoom before.world.down) (bytes_of_one command) room) in
+    (_, (_, [], [], step, (refl, refl, refl), refl, refl), search rules, refl)
 
 room_first : (line : LineContents) (first next : List ℕ) → HasRoom line (first ++ next)
     → HasRoom line first
@@ -178,9 +154,9 @@ sent_happen : (mode : UpdateMode) (command : CommandContent) (before : FollowedV
     → Happen (sending mode command) before
     (host_awaiting before.world.host (requested_kind command)) (sent_bytes mode command)
 sent_happen mode (CommandContent.ClockMessage message) before few encodes room =
-    frame_happens mode (CommandContent.ClockMessage message) before few encodes room
+    frame_happens mode _ before few encodes room
 sent_happen mode (CommandContent.Leds bytes) before few encodes room =
-    frame_happens mode (CommandContent.Leds bytes) before few encodes room
+    frame_happens mode _ before few encodes room
 sent_happen mode command before few encodes room = bare_happens command before few encodes room
 
 -- the world after the bytes of a sending, which are at the beginning of the slice
@@ -191,8 +167,7 @@ world_sent : (world : WorldView) (sent : Request) (after : HostView) (written : 
 world_sent world sent after written old new sends = search (rules, prefix_of)
 
 pub send_happens : (before : FollowedView) (command : CommandContent) (after : HostView)
-    (written : ℕ) (old new : List ℕ)
-    → Sends (record {
+    (written : ℕ) (old new : List ℕ) → Sends (record {
       kind = requested_kind command;
       bytes = sent_bytes before.pace.mode command;
     }) before.world.host after old new (Ok written)

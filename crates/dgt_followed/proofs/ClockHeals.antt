@@ -1,7 +1,7 @@
 -- After the last fault, one request more than the patience heals the clock, in the modes that
 -- report it.
-use Rattle.{std.{proofs.Common.{◌≡◌, inl, inr, ◌+◌, false, Some, refl, ap, ℕ, List, [], ◌∷◌, arith}, specs.Prelude.{IsTrue}}, dgt_command.specs.Content.{CommandContent}}
-use Rattle.{dgt_board.specs.{State.{command_mode, follows_clock}, declared.modes.Mode.{Mode}}, dgt_follow.specs.{Follower.{asking_of}, Pace.{PaceView, pace_after_asking, pace_at}}}
+use Rattle.{std.{proofs.Common.{rules, ◌≡◌, inl, inr, ◌+◌, false, Some, refl, ℕ, List, [], ◌∷◌, arith}, specs.Prelude.{IsTrue}}, dgt_command.specs.Content.{CommandContent}}
+use Rattle.{dgt_board.specs.{State.{command_mode, follows_clock}, declared.modes.Mode.{Mode}}, dgt_follow.specs.{Follower.{asking_of}, Pace.{pace_after_asking, pace_at}}}
 use Rattle.{dgt_follow.specs.declared.asking.{Asking.{Asking}, UpdateMode.{UpdateMode}}, dgt_link.specs.Clocks.{AreClockCalm, IsClockFollowing, IsClockPromisedWorld, stops_clock}}
 use Rattle.dgt_link.specs.{Faults.{FaultyContent, FaultyRuns, FaultyStep, is_fault, sends}, Healing.{IsInStep, IsInStepBy, IsSane}, View.{WorldView}, declared.acts.Outcome.{Outcome}}
 use Rattle.dgt_followed.{specs.Followed.{AfterAskings, FollowedStep, FollowedView, Happening, RunsDone, asking_acts, clock_count_after_asking, follower_of, unsettles_clock}, proofs.Askings.{Hope}}
@@ -23,8 +23,7 @@ module _
     (in_step : (acts : List FaultyContent) (world after : WorldView) (answers : List Outcome)
     → IsSane world → FaultyRuns acts world answers after → IsInStepBy acts answers → IsInStep after)
     (asked : (command : CommandContent) (mode : Mode) (world after : WorldView)
-    → command_mode command ≡ Some mode
-    → IsTrue (follows_clock mode) → IsInStep world
+    → command_mode command ≡ Some mode → IsTrue (follows_clock mode) → IsInStep world
     → FaultyStep (sends command) world Outcome.Done after → IsClockFollowing after)
     (reading : (world after : WorldView) → IsClockFollowing world
     → FaultyStep (sends CommandContent.Clock) world Outcome.Done after → IsClockPromisedWorld after)
@@ -36,8 +35,7 @@ module _
       → IsClockPromisedWorld world → RunsDone acts world after → IsClockPromisedWorld after
   kept_by_all [] world after calm promised same = rw same promised
   kept_by_all (act ∷ acts) world after calm promised (between, step, later) =
-      kept_by_all acts between after calm.1
-      (kept act world between Outcome.Done calm.0.0 calm.0.1 promised step) later
+      search (rules, kept_by_all acts between)
 
   heartbeat_keeps : (command : CommandContent) → stops_clock (sends command) ≡ false → (now : ℕ)
       → (before after : FollowedView) → asking_of (follower_of before) now ≡ Asking.Heartbeat
@@ -70,8 +68,7 @@ module _
   ask_hope mode Asking.Nothing now before after e same pace since hopes =
       rw (same, pace, since) hopes.hope
   ask_hope mode Asking.Identify now before after e runs pace since hopes =
-      other_hope IsClockPromisedWorld count false before after
-      (ap (λ (p : PaceView). p.patience) pace) (ap (λ (p : PaceView). p.left) pace) since
+      other_hope IsClockPromisedWorld count false before after (rw pace refl) (rw pace refl) since
       (λ e promised. kept_by_all (asking_acts mode Asking.Identify) before.world after.world
       ((refl, refl), tt) promised runs) hopes
   ask_hope UpdateMode.UpdateBoard Asking.Heartbeat now before after e runs pace since hopes =
@@ -81,22 +78,17 @@ module _
   ask_hope UpdateMode.Update Asking.Heartbeat now before after e runs pace since hopes =
       heartbeat_keeps CommandContent.Update refl now before after e runs pace since hopes
   ask_hope UpdateMode.Update Asking.Anew now before after e runs pace since hopes =
-      inl
-      (anew_promises CommandContent.Update Mode.Update refl refl before.world after.world hopes.sane
-      runs)
+      inl (anew_promises CommandContent.Update Mode.Update refl refl _ _ hopes.sane runs)
   ask_hope UpdateMode.UpdateNice Asking.Heartbeat now before after e runs pace since hopes =
       heartbeat_keeps CommandContent.UpdateNice refl now before after e runs pace since hopes
   ask_hope UpdateMode.UpdateNice Asking.Anew now before after e runs pace since hopes =
-      inl
-      (anew_promises CommandContent.UpdateNice Mode.UpdateNice refl refl before.world after.world
-      hopes.sane runs)
+      inl (anew_promises CommandContent.UpdateNice Mode.UpdateNice refl refl _ _ hopes.sane runs)
 
   hope_after : (happening : Happening) (before after : FollowedView)
       → FollowedStep happening before after → Hopes IsClockPromisedWorld count before
       → Hope IsClockPromisedWorld count after
   hope_after (Happening.Ask now) before after (runs, pace, since, clock_since) hopes =
-      ask_hope before.pace.mode (asking_of (follower_of before) now) now before after refl runs pace
-      clock_since hopes
+      ask_hope before.pace.mode _ now before after refl runs pace clock_since hopes
   hope_after (Happening.Other act) before after (answer, step, keeps, since, clock_since) hopes =
       other_hope IsClockPromisedWorld count (unsettles_clock act) before after keeps.patience
       keeps.left clock_since (λ e promised. let both = neither (is_fault act) (stops_clock act) e in

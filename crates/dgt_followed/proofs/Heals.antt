@@ -1,5 +1,5 @@
 -- After the last fault, one request more than the patience heals the picture.
-use Rattle.{std.proofs.Common.{◌≡◌, inl, true, false, refl, ap, ℕ, List, [], ◌∷◌}, dgt_follow.specs.{Follower.{asking_of}, Pace.{PaceView, mode_command, pace_after_asking, pace_at}}}
+use Rattle.{std.proofs.Common.{rules, ◌≡◌, inl, true, false, refl, ℕ, List, [], ◌∷◌}, dgt_follow.specs.{Follower.{asking_of}, Pace.{mode_command, pace_after_asking, pace_at}}}
 use Rattle.{dgt_follow.specs.declared.asking.{Asking.{Asking}, UpdateMode.{UpdateMode}}, dgt_link.specs.Faults.{AreCalm, FaultyContent, FaultyRuns, FaultyStep, begins_anew, is_fault, sends, stops}}
 use Rattle.{dgt_link.specs.{Healing.{IsPromisedWorld, IsSane}, View.{WorldView}, declared.acts.Outcome.{Outcome}}, dgt_followed.specs.Followed.{AfterAskings, FollowedStep, FollowedView, Happening}}
 use Rattle.dgt_followed.{specs.Followed.{RunsDone, asking_acts, count_after_asking, follower_of, reading_acts, unsettles}, proofs.Askings.{Hope, Hopes, heartbeat_hope, neither, other_hope}}
@@ -10,13 +10,10 @@ count followed = followed.since
 
 -- after the mode's command and the clock's request the board keeps reporting its changes
 mode_is_calm : (mode : UpdateMode) → AreCalm (sends (mode_command mode) ∷ reading_acts mode)
-mode_is_calm UpdateMode.UpdateBoard = ((refl, refl), tt)
-mode_is_calm UpdateMode.Update = ((refl, refl), ((refl, refl), tt))
-mode_is_calm UpdateMode.UpdateNice = ((refl, refl), ((refl, refl), tt))
+mode_is_calm mode = search rules
 
 heartbeat_is_calm : (mode : UpdateMode) → AreCalm (asking_acts mode Asking.Heartbeat)
-heartbeat_is_calm mode = let reported = mode_is_calm mode in
-    (reported.0, ((refl, refl), reported.1))
+heartbeat_is_calm mode = search (rules, mode_is_calm)
 
 module _
     (stay_sane : (acts : List FaultyContent) (world after : WorldView) (answers : List Outcome)
@@ -36,8 +33,7 @@ module _
       → IsPromisedWorld world → RunsDone acts world after → IsPromisedWorld after
   kept_by_all [] world after calm sane promised same = rw same promised
   kept_by_all (act ∷ acts) world after calm sane promised (between, step, later) =
-      kept_by_all acts between after calm.1 (sane_after act world between Outcome.Done sane step)
-      (kept act world between Outcome.Done calm.0.0 calm.0.1 sane promised step) later
+      search (rules, kept_by_all acts between, sane_after)
 
   ask_hope : (what : Asking) (now : ℕ) (before after : FollowedView)
       → asking_of (follower_of before) now ≡ what
@@ -48,8 +44,7 @@ module _
   ask_hope Asking.Nothing now before after e same pace since hopes =
       rw (same, pace, since) hopes.hope
   ask_hope Asking.Identify now before after e runs pace since hopes =
-      other_hope IsPromisedWorld count false before after (ap (λ (p : PaceView). p.patience) pace)
-      (ap (λ (p : PaceView). p.left) pace) since
+      other_hope IsPromisedWorld count false before after (rw pace refl) (rw pace refl) since
       (λ e promised.
       kept_by_all (asking_acts before.pace.mode Asking.Identify) before.world after.world
       ((refl, refl), tt) hopes.sane promised runs) hopes
@@ -70,7 +65,7 @@ module _
       → FollowedStep happening before after → Hopes IsPromisedWorld count before
       → Hope IsPromisedWorld count after
   hope_after (Happening.Ask now) before after (runs, pace, since, clock_since) hopes =
-      ask_hope (asking_of (follower_of before) now) now before after refl runs pace since hopes
+      ask_hope _ now before after refl runs pace since hopes
   hope_after (Happening.Other act) before after (answer, step, keeps, since, clock_since) hopes =
       other_hope IsPromisedWorld count (unsettles act) before after keeps.patience keeps.left since
       (λ e promised. let both = neither (is_fault act) (stops act) e in

@@ -1,11 +1,11 @@
 -- The happenings to a follower that records only what it hears are calls of it.
-use Rattle.std.proofs.Common.{◌≡◌, ◌⊎◌, inl, inr, true, false, Option, Some, refl, sym, ap, ◌∙◌, ℕ, List, [], ◌∷◌, ◌++◌, append_assoc, append-nil, map, option_to_list, rules}
-use Rattle.{dgt_values.specs.declared.kinds.Kind.{Kind}, dgt_message.specs.{Content.{Content}, Picture.{picture_after_all}}, dgt_host.specs.{Confirmed.{confirmed_after_all}, Host.{HostView}}}
+use Rattle.std.proofs.Common.{◌≡◌, ◌⊎◌, inl, inr, true, false, Option, Some, refl, sym, ap, ◌∙◌, ℕ, List, [], ◌∷◌, ◌++◌, append_assoc, append-nil, map, rules}
+use Rattle.{dgt_values.specs.declared.kinds.Kind.{Kind}, dgt_message.specs.{Content.{Content}, Picture.{picture_after_all}}, dgt_host.specs.{Host.{HostView}}}
 use Rattle.{dgt_host.specs.Host.{host_awaiting}, dgt_follow.specs.{Calls.{Call, ConfirmedOverCalls, OneStretchIsSeen, bytes_heard, follower_after_call, follower_after_calls}, Follower.{FollowerView}}}
-use Rattle.{dgt_follow.specs.{Follower.{asking_of, following, host_after_asking}, Pace.{PaceView}, declared.asking.{Asking.{Asking}, UpdateMode.{UpdateMode}}}, dgt_link.specs.Faults.{FaultyContent}}
+use Rattle.{dgt_follow.specs.{Follower.{host_after_asking}, declared.asking.{Asking.{Asking}, UpdateMode.{UpdateMode}}}, dgt_link.specs.Faults.{FaultyContent}}
 use Rattle.{dgt_link.specs.{Faults.{FaultyStep}, View.{WorldView}, declared.acts.Outcome.{Outcome}}, dgt_followed.specs.Followed.{FollowedRuns, FollowedView, RunsDone, asking_acts}}
 use Rattle.dgt_followed.specs.{Followed.{follower_of}, Heard.{ConfirmedAsDelivered, ConfirmedIsReportedInWorlds, HappeningsAreCalls, HeardRuns, HeardStep, OneStretchIsSeenInWorlds, SentIsReported}}
-use Rattle.dgt_followed.specs.Heard.{TimedHappening, bytes_by, happening_of, is_noticed, is_setting}
+use Rattle.dgt_followed.specs.Heard.{TimedHappening, bytes_by, happening_of, is_noticed}
 
 -- ---- calls in a row
 
@@ -29,16 +29,8 @@ Leads before bytes after =
 
 in_a_row : (a b c : FollowerView) (bytes more : List ℕ) → Leads a bytes b → Leads b more c
     → Leads a (bytes ++ more) c
-in_a_row a b c bytes more (calls, heard, e) (others, later, f) = (
-  calls ++ others,
-  bytes_append calls others ∙ rw (heard, later) refl,
-  f ∙ ap (λ (g : FollowerView). follower_after_calls g others) e
-      ∙ sym (calls_append a calls others),
-)
-
-same_follower : (host host' : HostView) (pace pace' : PaceView) → host ≡ host' → pace ≡ pace'
-    → following host pace ≡ following host' pace'
-same_follower host host' pace pace' e f = rw (e, f) refl
+in_a_row a b c bytes more (calls, heard, e) (others, later, f) =
+    (calls ++ others, search (rules, bytes_append), search (rules, calls_append))
 
 -- ---- the host after its request
 
@@ -59,46 +51,30 @@ act_like act world after answer unseen step = search rules
 
 act_leads : (before after : FollowedView) → IsLike before.world.host after.world.host
     → after.pace ≡ before.pace → Leads (follower_of before) [] (follower_of after)
-act_leads before after (inl same) pace =
-    ([], refl, same_follower after.world.host before.world.host after.pace before.pace same pace)
-act_leads before after (inr (kind, sent)) pace = (
-  Call.Sends kind ∷ [],
-  refl,
-  same_follower after.world.host (host_awaiting before.world.host kind) after.pace before.pace sent
-      pace,
-)
+act_leads before after (inl same) pace = ([], refl, rw (same, pace) refl)
+act_leads before after (inr (kind, sent)) pace = (Call.Sends kind ∷ [], refl, rw (sent, pace) refl)
 
 -- ---- all happenings
-
-no_bytes : (call : Call) → is_setting call ≡ true → bytes_heard (call ∷ []) ≡ []
-no_bytes call sets = search rules
 
 step_leads : (happening : TimedHappening) (before after : FollowedView)
     → HeardStep happening before after
     → Leads (follower_of before) (bytes_by happening before) (follower_of after)
 step_leads (TimedHappening.Asks now) before after ((runs, pace, since, clock_since), notes) =
-    let what = asking_of (follower_of before) now in (
-      Call.Asks now ∷ [],
-      refl,
-      same_follower after.world.host (host_after_asking what before.world.host) after.pace _
-          (asked_host before.pace.mode what before.world after.world runs) pace,
-    )
+    (Call.Asks now ∷ [], refl, search (rules, asked_host))
 step_leads (TimedHappening.Hears now count) before after (step, heard) =
     (Call.Hears now _ ∷ [], append-nil _, heard)
 step_leads (TimedHappening.Sets call) before after (step, (sets, set)) =
-    (call ∷ [], no_bytes call sets, set)
+    (call ∷ [], search rules, set)
 step_leads (TimedHappening.Acts act) before after
     ((answer, step, keeps, since, clock_since), (unseen, pace)) =
-    act_leads before after (act_like act before.world after.world answer unseen step) pace
+    search (rules, act_leads, act_like)
 
 pub are_calls : HappeningsAreCalls
 are_calls [] said bytes before after (silent, none, same) = rw (none, same) ([], refl, refl)
 are_calls (happening ∷ later) said bytes before after
     (between, more, rest, step, runs, sent, whole) =
-    rw whole
-    (in_a_row (follower_of before) (follower_of between) (follower_of after)
-    (bytes_by happening before) rest
-    (step_leads happening before between step) (are_calls later more rest between after runs))
+    rw whole (in_a_row _ _ _ _ _ (step_leads happening before between step)
+    (are_calls later more rest between after runs))
 
 pub are_followed : (happenings : List TimedHappening) (said : List Content) (bytes : List ℕ)
     (before after : FollowedView) → HeardRuns happenings said bytes before after
@@ -118,18 +94,15 @@ one_stretch_in_worlds stretch happenings sent said bytes before after reported i
     let (calls, all, e) = are_calls happenings sent bytes before after runs in
     let sure : (follower_after_calls (follower_of before) calls).pace.confirmed ≡ true =
     rw (← e) confirmed in
-    let again : confirmed_after_all false (Some reported)
-    (is.first ++ option_to_list is.meant ++ is.last) ≡ true
-    = rw is.said_is at restated in
+    let again = rw is.said_is at restated in
     ap (λ (f : FollowerView). f.host.picture) e
     ∙ stretch (follower_of before) calls reported is.first is.last is.stretch is.meant is.heard
-    is.first_are is.last_are
-    is.whole is.unconfirmed is.right is.says (all ∙ is.bytes_are) again sure
+    is.first_are is.last_are is.whole is.unconfirmed is.right is.says (all ∙ is.bytes_are) again
+    sure
     ∙ ap (λ (m : List Content). picture_after_all (Some reported) m) (sym is.said_is)
 
 pub confirmed_is_reported : OneStretchIsSeen → SentIsReported → ConfirmedIsReportedInWorlds
 confirmed_is_reported stretch reports happenings said bytes before after is powered runs restated
     confirmed =
-    one_stretch_in_worlds stretch happenings said said bytes before after
-    before.world.board.state.reported_squares is runs restated confirmed
-    ∙ sym (reports happenings said bytes before after powered runs)
+    one_stretch_in_worlds stretch happenings said said bytes before after _ is runs restated
+    confirmed ∙ sym (reports happenings said bytes before after powered runs)

@@ -41,9 +41,7 @@ module _
   reading_restates : (mode : UpdateMode) (world after : WorldView) → IsRestatedWorld world
       → RunsDone (reading_acts mode) world after → IsRestatedWorld after
   reading_restates UpdateMode.UpdateBoard world after is same = rw same is
-  reading_restates UpdateMode.Update world after is (between, step, same) =
-      rw same (sent_restates CommandContent.Clock world between is step)
-  reading_restates UpdateMode.UpdateNice world after is (between, step, same) =
+  reading_restates _ world after is (between, step, same) =
       rw same (sent_restates CommandContent.Clock world between is step)
 
   asked_restates : (mode : UpdateMode) (what : Asking) (world after : WorldView)
@@ -87,5 +85,4 @@ module _
       → IsRestatedWorld after.world × HasNoDoubt after.pace
   runs_are_calm [] before after is calm same = rw same (is, calm)
   runs_are_calm (happening ∷ later) before after is calm (between, step, sound, runs) =
-      let next = step_is_calm happening before between (is, calm) step sound in
-      runs_are_calm later between after next.0 next.1 runs
+      search (rules, runs_are_calm later between, step_is_calm)

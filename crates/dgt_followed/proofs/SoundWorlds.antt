@@ -1,5 +1,5 @@
 -- In a world without faults each dump restates the picture, and a follower hears no doubt.
-use Rattle.{std.{proofs.Common.{◌≡◌, ◌≢◌, refl, sym, ℕ, zero, suc, List, [], ◌∷◌, ◌++◌, replicate, take, drop, map}, specs.List.{AllByRecursion}}, dgt_message.specs.Content.{Content}}
+use Rattle.{std.{proofs.Common.{rules, ◌≡◌, ◌≢◌, refl, ℕ, zero, suc, List, [], ◌∷◌, ◌++◌, replicate, take, drop, map}, specs.List.{AllByRecursion}}, dgt_message.specs.Content.{Content}}
 use Rattle.{dgt_decode.specs.Grammar.{Event, Message, Placed, events}, dgt_board.specs.State.{BoardState}, dgt_follow.specs.Follower.{FollowerView, follower_after, follower_after_event}}
 use Rattle.{dgt_follow.specs.Follower.{follower_after_events}, dgt_link.specs.{Act.{ActContent}, Machine.{IsHostBreak, IsSending, MachineState, Move, after_move, after_moves}, Readers.{Reads}}}
 use Rattle.dgt_link.specs.{Sound.{IsExact, IsSound}, Stands.{AreMovesOfAct, AreMovesOfStep, IsExactWorld, StandsAfterStep, StandsFor}, Step.{Step}, View.{WorldView}, declared.acts.Outcome.{Outcome}}
@@ -16,38 +16,23 @@ all_at_rest (suc count) move rests x = (rests x, all_at_rest count move rests (a
 
 sending_rests : (x : MachineState) (board : BoardState) (move : Move) → board ≡ x.board
     → IsSending move → IsAtRest board board.owed → SendsAtRest x move
-sending_rests x board Move.Reply same sending rest = rw same at rest
-sending_rests x board (Move.Report square) same sending rest = tt
-sending_rests x board Move.ReportClock same sending rest = tt
-sending_rests x board _ same none rest = absurd none
+sending_rests x board move same sending rest = search rules
 
 act_rests : (act : ActContent) (world : WorldView) (x : MachineState) (moves : List Move)
     → world.board.state ≡ x.board → ActsAtRest act world → AreMovesOfAct act moves
     → DumpsAtRest x moves
-act_rests (ActContent.Change square piece) world x moves same rest e = rw e (tt, tt)
-act_rests (ActContent.ClockRead clock) world x moves same rest e = rw e (tt, tt)
-act_rests (ActContent.Host command) world x moves same rest e = rw e (tt, tt)
-act_rests ActContent.BoardSend world x moves same rest (move, sending, e) =
-    rw e (sending_rests x world.board.state move same sending rest, tt)
-act_rests (ActContent.ToBoard bytes) world x moves same rest (count, e) =
-    rw e (all_at_rest count Move.Take (λ y. tt) x)
-act_rests (ActContent.ToHost bytes) world x moves same rest (count, e) =
-    rw e (all_at_rest count Move.Hear (λ y. tt) x)
-act_rests ActContent.Break world x moves same rest e = rw e (tt, tt)
-act_rests ActContent.HostBreak world x moves same rest (noise, is_noise, e) = rw e (tt, tt)
+act_rests act world x moves same rest are = search (rules, sending_rests, all_at_rest)
 
 step_rests : (answer : Outcome) (act : ActContent) (world : WorldView) (x : MachineState)
     (moves : List Move) → world.board.state ≡ x.board → ActsAtRest act world
     → AreMovesOfStep act answer moves → DumpsAtRest x moves
-step_rests Outcome.Done act world x moves same rest are = act_rests act world x moves same rest are
-step_rests _ act world x moves same rest e = rw e tt
+step_rests answer act world x moves same rest are = search (rules, act_rests)
 
 -- ---- acts
 
 abbrev pub ActsAreMoves : Type 0
 ActsAreMoves = (act : ActContent) (world after : WorldView) (answer : Outcome) (x : MachineState)
-    → StandsFor world x
-    → Step act world answer after → StandsAfterStep act answer x after
+    → StandsFor world x → Step act world answer after → StandsAfterStep act answer x after
 
 abbrev pub MovesStayExact : Type 0
 MovesStayExact =
@@ -74,17 +59,13 @@ module _ (reach : ActsAreMoves) (exact : MovesStayExact)
       → RunsAtRest acts world answers after → IsRestatedWorld after
   acts_restate [] world after [] others is same = rw same is
   acts_restate (act ∷ acts) world after (answer ∷ answers) others is (between, step, runs) =
-      acts_restate acts between after answers others.1
-      (act_restates act world between answer others.0 is step) runs
+      search (rules, acts_restate acts between, act_restates)
   acts_restate _ world after _ others is none = absurd none
 
 -- nothing is under way
 pub nothing_to_restate : (world : WorldView) → IsExactWorld world → world.host.unread ≡ []
     → world.up.bytes ≡ [] → IsRestatedWorld world
-nothing_to_restate world is unread up =
-    let none : is.state.up ≡ []
-    = nothing_said is.state.up (sym (rw (unread, up) at is.stands.up.in_a_row)) in
-    record { state = is.state; stands = is.stands; exact = is.exact; restates = rw none tt }
+nothing_to_restate world is unread up = search (rules, nothing_said)
 
 -- ---- what the follower hears
 

@@ -17,8 +17,6 @@ pub none_said : (signal : Signal) (down pressed : ℕ) → IsNoButton pressed
     → Says signal 0x88 down pressed → ⊥
 none_said (Signal.Pressed button) s t none p = none_pressed (Signal.Pressed button) s t none p.1
 none_said Signal.Off s t none p = none_pressed Signal.Off s t none p.1
-none_said (Signal.Done KnownId.Button) s t none p = search rules
-none_said (Signal.Done KnownId.Version) s t none p = absurd p
 none_said signal s t none p = search rules
 
 button_said : (signal : Signal) (kind s t : ℕ) → Says (Signal.Done KnownId.Button) kind s t
@@ -27,20 +25,10 @@ button_said signal kind s t p q = none_pressed signal s t p.1 q
 
 pub said : (one other : Signal) (kind second third : ℕ) → Says one kind second third
     → Says other kind second third → one ≡ other
-said (Signal.Version a b) other k s t p q = search rules
-said Signal.Ready other k s t p q = search rules
-said (Signal.Pressed button) (Signal.Pressed own) k s t p q =
-    once (Signal.Pressed button) (Signal.Pressed own) s t p.1 q.1
-said (Signal.Pressed button) Signal.Off k s t p q =
-    once (Signal.Pressed button) Signal.Off s t p.1 q.1
 said (Signal.Pressed button) (Signal.Done KnownId.Button) k s t p q =
     absurd (button_said (Signal.Pressed button) k s t q p.1)
-said (Signal.Pressed button) other k s t p q = search rules
-said Signal.Off (Signal.Pressed own) k s t p q = once Signal.Off (Signal.Pressed own) s t p.1 q.1
 said Signal.Off (Signal.Done KnownId.Button) k s t p q = absurd (button_said Signal.Off k s t q p.1)
-said Signal.Off other k s t p q = search rules
 said (Signal.Done KnownId.Button) (Signal.Pressed own) k s t p q =
     absurd (button_said (Signal.Pressed own) k s t p q.1)
 said (Signal.Done KnownId.Button) Signal.Off k s t p q = absurd (button_said Signal.Off k s t p q.1)
-said (Signal.Done id) (Signal.Done own) k s t p q = search rules
-said (Signal.Done id) other k s t p q = search rules
+said one other k s t p q = search rules

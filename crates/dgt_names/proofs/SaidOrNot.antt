@@ -1,6 +1,6 @@
 -- Bytes either have a meaning or not.
-use Rattle.std.proofs.Common.{◌≡◌, ◌≢◌, ◌<◌, ◌≤◌, ◌⊎◌, ℕ, suc, inl, inr, List, [], ◌∷◌, arith, length, rules, subst, Bool, true, false, Some, None, refl, slice_index as nth}
-use Rattle.std.{proofs.lemmas.Bool.{false≢true, Decides.{eqb_tells, leb_tells}}, specs.Prelude.{IsTrue, IsBitSet, Option, bit_and, eqb, leb, ◌/◌, ◌%◌, ◌^◌, ◌↔◌}}
+use Rattle.std.proofs.Common.{◌≡◌, ◌≢◌, ◌<◌, ◌≤◌, ◌⊎◌, ℕ, suc, inl, inr, List, [], ◌∷◌, arith, length, rules, Bool, true, false, Some, None, refl, slice_index as nth}
+use Rattle.std.{proofs.lemmas.Bool.{false≢true, Decides.{eqb_tells, leb_tells}}, specs.Prelude.{IsTrue, IsBitSet, Option, bit_and, ◌/◌, ◌%◌, ◌^◌, ◌↔◌}}
 use Rattle.{dgt_command.specs.declared.ids.KnownId.{KnownId}, dgt_names.specs.Names.{ArePressed, IsBattery, IsKnownAs, IsNoButton, IsSignal, IsText, Says}}
 use Rattle.dgt_names.{specs.declared.{battery.BatteryState.{BatteryState}, clock.{Button.{Button}, Signal.{Signal}}}, proofs.SaidOnce.{none_said}}
 
@@ -37,20 +37,16 @@ buttons_say : (kind s t : ℕ) → (kind ≡ 0x08) ⊎ (kind ≡ 0x88) → (sign
 buttons_say kind s t k signal p = search rules
 
 answered : (kind s t : ℕ) → kind ≡ 0x08 → Decided (λ signal. Says signal kind s t)
-answered kind s t k = by (pressed_or_none s t)
-  where
-    by : ((signal : Signal) × ArePressed signal s t) ⊎ IsNoButton t
-        → Decided (λ signal. Says signal kind s t)
-    by (inl p) = inl (p.0, buttons_say kind s t (inl k) p.0 p.1)
-    by (inr none) = inl (Signal.Done KnownId.Button, (k, none))
+answered kind s t k = elim (pressed_or_none s t) [
+  | inl p ↦ inl (p.0, buttons_say kind s t (inl k) p.0 p.1)
+  | inr none ↦ inl (Signal.Done KnownId.Button, (k, none))
+]
 
 unasked : (kind s t : ℕ) → kind ≡ 0x88 → Decided (λ signal. Says signal kind s t)
-unasked kind s t k = by (pressed_or_none s t)
-  where
-    by : ((signal : Signal) × ArePressed signal s t) ⊎ IsNoButton t
-        → Decided (λ signal. Says signal kind s t)
-    by (inl p) = inl (p.0, buttons_say kind s t (inr k) p.0 p.1)
-    by (inr none) = inr (λ signal h. none_said signal s t none (subst (λ n. Says signal n s t) k h))
+unasked kind s t k = elim (pressed_or_none s t) [
+  | inl p ↦ inl (p.0, buttons_say kind s t (inr k) p.0 p.1)
+  | inr none ↦ inr (λ signal h. none_said signal s t none (rw k at h))
+]
 
 other_kind : (kind s t : ℕ) → kind ≢ 0x01 → kind ≢ 0x02 → kind ≢ 0x03 → kind ≢ 0x08 → kind ≢ 0x09
     → kind ≢ 0x0a → kind ≢ 0x0b → kind ≢ 0x0c → kind ≢ 0x81 → kind ≢ 0x88 → (signal : Signal)
@@ -73,14 +69,10 @@ says_or_not kind s t =
 
 pub signal_or_none : (bytes : List ℕ) → Decided (IsSignal bytes)
 signal_or_none bytes =
-    either (nth bytes 0) 0x10 (λ e. by e (says_or_not (nth bytes 1) (nth bytes 2) (nth bytes 3)))
-    (λ n. inr (λ signal h. n h.0))
-  where
-    by : nth bytes 0 ≡ 0x10
-        → Decided (λ signal. Says signal (nth bytes 1) (nth bytes 2) (nth bytes 3))
-        → Decided (IsSignal bytes)
-    by e (inl said) = inl (said.0, (e, said.1))
-    by e (inr none) = inr (λ signal h. none signal h.1)
+    either (nth bytes 0) 0x10 (λ e. elim (says_or_not (nth bytes 1) (nth bytes 2) (nth bytes 3)) [
+      | inl said ↦ inl (said.0, (e, said.1))
+      | inr none ↦ inr (λ signal h. none signal h.1)
+    ]) (λ n. inr (λ signal h. n h.0))
 
 -- ---- batteries
 
@@ -145,9 +137,7 @@ all_or_not (byte ∷ bytes) = by (prints_or_not byte) (all_or_not bytes)
 
 pub text_or_none : (bytes : List ℕ) → IsText bytes ⊎ ¬ (IsText bytes)
 text_or_none [] = inr (λ h. omega (arith, h.0))
-text_or_none (byte ∷ bytes) = by (all_or_not (byte ∷ bytes))
-  where
-    by : AllPrint (byte ∷ bytes) ⊎ ¬ (AllPrint (byte ∷ bytes))
-        → IsText (byte ∷ bytes) ⊎ ¬ (IsText (byte ∷ bytes))
-    by (inl h) = inl (omega arith, h)
-    by (inr n) = inr (λ h. n h.1)
+text_or_none (byte ∷ bytes) = elim (all_or_not (byte ∷ bytes)) [
+  | inl h ↦ inl (omega arith, h)
+  | inr n ↦ inr (λ h. n h.1)
+]

@@ -1,12 +1,11 @@
-use Rattle.{std.proofs.Common.{refl}, dgt_c.proofs.{ChessLemmas.{no_lead}, EncodingLemmas.{are_pieces}}}
+use Rattle.{std.proofs.Common.{rules, refl}, dgt_c.proofs.{ChessLemmas.{no_lead}, EncodingLemmas.{are_pieces}}}
 use Rattle.dgt_c.proofs.chess.dgt_chess_move_to.Goals as goal
 
 pub returns-in_default-clause-none : goal.returns-in_default-clause-none
 returns-in_default-clause-none c = λ e. (λ move h. c.in_default.ensures (h.0, h.2), refl)
 
 pub returns-in_default-read_position-clause-none : goal.returns-in_default-read_position-clause-none
-returns-in_default-read_position-clause-none c =
-    λ e. (λ move h. c.in_default-read_position.ensures (are_pieces h.1 _ h.3), refl)
+returns-in_default-read_position-clause-none c = search (rules, are_pieces)
 
 pub returns-in-None-clause-none : goal.returns-in-None-clause-none
 returns-in-None-clause-none c = λ e. (

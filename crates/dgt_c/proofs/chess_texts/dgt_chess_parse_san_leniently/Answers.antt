@@ -4,11 +4,4 @@ use Rattle.dgt_c.proofs.chess_texts.dgt_chess_parse_san_leniently.Goals as goal
 pub returns-in-Some : goal.returns-in-Some
 returns-in-Some c =
     let put = c.put_move.ensures in
-    inl (
-      c.in-Some.state,
-      c.parse_san_leniently.result,
-      c.in-Some.ensures.0,
-      c.parse_san_leniently.ensures,
-      put.written,
-      put.status,
-    )
+    inl (_, _, c.in-Some.ensures.0, c.parse_san_leniently.ensures, put.written, put.status)

@@ -8,13 +8,8 @@ pub loop-host-preserved-then-is_some : goal.loop-host-preserved-then-is_some
 loop-host-preserved-then-is_some c =
     let call = rw (take_rest c.args.chunk.now c.loop-host.used) at c.hear.ensures in
     let after = rw (take_rest c.args.chunk.now c.loop-host.used) at c.hear.follows.holds-at-none in
-    one_heard host c.events_append.ensures c.args.host.now c.args.chunk.now c.args.reported.now
-    c.args.body.now
-    c.unfinished_is_part.ensures c.heard_in_chunks.ensures c.loop-host.host _ c.loop-host.used
-    c.hear.result.used
-    c.loop-host.count c.loop-host.body_len c.loop-host.reported c.loop-host.body
-    c.body_of-said.result.now
-    c.overwrite.new.out c.hear.result.event c.report_heard.new.out c.loop-host.invariant
+    one_heard host c.events_append.ensures _ _ _ _ c.unfinished_is_part.ensures
+    c.heard_in_chunks.ensures _ _ _ _ _ _ _ _ _ _ _ _ c.loop-host.invariant
     (c.loop-host-test.ensures.0 refl) call.first after (sym c.is_some.ensures ∙ c.if-is_some.true)
     (c.hear.result.unasked, call.unasked, c.report_heard.ensures) c.body_of-said.ensures
     c.overwrite.ensures
@@ -23,13 +18,9 @@ pub loop-host-preserved : goal.loop-host-preserved
 loop-host-preserved c =
     let call = rw (take_rest c.args.chunk.now c.loop-host.used) at c.hear.ensures in
     let after = rw (take_rest c.args.chunk.now c.loop-host.used) at c.hear.follows.holds-at-none in
-    none_heard host c.events_append.ensures c.args.host.now c.args.chunk.now c.args.reported.now
-    c.args.body.now
-    c.heard_in_chunks.ensures c.loop-host.host _ c.loop-host.used c.hear.result.used
-    c.loop-host.count
-    c.loop-host.body_len c.loop-host.reported c.loop-host.body c.hear.result.event
-    c.loop-host.invariant
-    (c.loop-host-test.ensures.0 refl) call.first after (sym c.is_some.ensures ∙ c.if-is_some.false)
+    none_heard host c.events_append.ensures _ _ _ _ c.heard_in_chunks.ensures _ _ _ _ _ _ _ _ _
+    c.loop-host.invariant (c.loop-host-test.ensures.0 refl) call.first after
+    (sym c.is_some.ensures ∙ c.if-is_some.false)
 
 pub returns-clause-uses : goal.returns-clause-uses
 returns-clause-uses c = search (rules, uses, host)

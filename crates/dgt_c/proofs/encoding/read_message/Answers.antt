@@ -1,4 +1,4 @@
-use Rattle.{std.proofs.Common.{rules}, dgt_values.specs.Bytes.{body_bytes}, dgt_message.specs.Content.{code_number}, dgt_c.proofs.EncodingLemmas.{no_case, no_clock, no_dump, no_message, other_said}}
+use Rattle.{std.proofs.Common.{rules}, dgt_c.proofs.EncodingLemmas.{no_case, no_clock, no_dump, no_message, other_said}}
 use Rattle.dgt_c.proofs.encoding.read_message.Goals as goal
 
 pub returns-in_default : goal.returns-in_default
@@ -14,9 +14,4 @@ pub returns-in_err-absence-in-4 : goal.returns-in_err-absence-in-4
 returns-in_err-absence-in-4 c = search (rules, no_clock)
 
 pub returns-in_ok-read_body-in-11 : goal.returns-in_ok-read_body-in-11
-returns-in_ok-read_body-in-11 c =
-    let other = c.in_ok-ok-in-11-2.field-0 in
-    other_said c.args.said.now c.args.body.now (body_bytes c.in_ok-read_body-in-11.field-0)
-    (code_number other)
-    other.code.small (no_case _ other.unread) (search rules) (search rules) (search rules)
-    (search rules)
+returns-in_ok-read_body-in-11 c = search (rules, other_said, no_case)

@@ -1,9 +1,8 @@
-use Rattle.{std.proofs.Common.{subst, sym, rules}, dgt_c.{specs.Encoding.{IsMessageKind}, proofs.EncodingLemmas.{message_kinds, said_apart}}}
+use Rattle.{std.proofs.Common.{sym, rules}, dgt_c.{proofs.EncodingLemmas.{message_kinds, said_apart}}}
 use Rattle.dgt_c.proofs.laws.said_messages.Goals as goal
 
 pub returns-clause-kinds : goal.returns-clause-kinds
-returns-clause-kinds c =
-    λ said body message p. subst IsMessageKind (sym p.0) (message_kinds message)
+returns-clause-kinds c = λ said body message p. rw p.0 (message_kinds message)
 
 pub returns-clause-dump : goal.returns-clause-dump
 returns-clause-dump c = λ said body pieces p. (p.0, sym p.1)
@@ -21,8 +20,7 @@ pub returns-clause-serial : goal.returns-clause-serial
 returns-clause-serial c = λ said body digits p. (p.0, sym p.1.1)
 
 pub returns-clause-version : goal.returns-clause-version
-returns-clause-version c =
-    λ said body first second p. (p.0, let same = p.1.1 in cc, let same = p.1.1 in cc)
+returns-clause-version c = search rules
 
 pub returns-clause-carried : goal.returns-clause-carried
 returns-clause-carried c = search (rules, said_apart)
