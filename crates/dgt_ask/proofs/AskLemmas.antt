@@ -1,13 +1,13 @@
 -- The words of commands.
 use Rattle.std.proofs.Common.{◌≡◌, ◌≢◌, ◌+◌, ◌/◌, ◌<◌, ◌≤◌, ◌⊎◌, inl, inr, ℕ, false, List, [], ◌∷◌, ◌++◌, length, length-append, get_or, take, map, Bor, add-one, Option, Result, Ok, Err, None, Some}
-use Rattle.std.proofs.{Common.{ap, arith, refl, sym, ◌∙◌, slice_index as nth, rules}, Math.Seq.{take-suc}, lemmas.{Bool.{cases_lt}, Fmt.{decimal_digit, first_decimal, parse-decimal}}}
 use Rattle.std.proofs.lemmas.{Grind.{common_steps}, List.{append-nil, get_or-append-add, get_or-map, get_or_append_left, get_or_at, length-map, take_all, Folds.{concat-append}}}
 use Rattle.std.specs.{List.{list_all, concat}, Prelude.{OnErr, IfNone, IfOk, IsErrAnd, IsOkAnd, MatchResult, Bool, true, not, codes, decimal, ◌==◌}, Result.{is_ok, result_ok}}
 use Rattle.{std.specs.Str.Parse.{ParsesUnsigned}, hex.{specs.Hex.{decode_sized}, proofs.HexLemmas.{IsOk-decode_sized, decode_of-ok}}, dgt_values.specs.Segment.{IsShownBy}}
 use Rattle.dgt_command.specs.{Content.{ClockContent, CommandContent, ClockMessage, EventContent, Stray, clock_content, known_clock}, Display.{HasNoSegments, Shows}, Words.{BeginsNoCommand, HasForm}}
-use Rattle.{dgt_command.specs.{Words.{IsPartial, IsWord}, declared.{clock.ClockCommand.{ClockCommand}, ids.KnownId.{KnownId}}}, dgt_ask.specs.Asking.{Awaits, AwaitsBytes, IsAfterId}}
-use Rattle.dgt_ask.specs.{Asks.{AskInOrder, AsksBytes, AsksHelp, DetailAsks, HasBytes, IsNamed, IsRaw, LacksOperand, detail_text}, declared.asking.{Awaited.{Awaited}, BadAsk.{BadAsk}}}
-use Rattle.dgt_ask.specs.declared.{details.Detail.{Detail}, asking.{Awaited.TheVariants.{Name}, BadAsk.TheVariants.{Missing, OutOfMemory}}}
+use Rattle.{dgt_command.specs.{Words.{IsPartial, IsWord}, declared.{clock.ClockCommand.{ClockCommand}, ids.KnownId.{KnownId}}}, dgt_ask.specs.{Asking.{Awaits, IsAfterId}, Asks.{AskInOrder}}}
+use Rattle.dgt_ask.specs.{Asks.{AsksBytes, AsksHelp, DetailAsks, HasBytes, IsNamed, IsRaw, LacksOperand, detail_text}, declared.{asking.{Awaited.{Awaited}, BadAsk.{BadAsk}}, details.Detail.{Detail}}}
+use Rattle.dgt_ask.specs.declared.asking.{Awaited.TheVariants.{Name}, BadAsk.TheVariants.{Missing, OutOfMemory}}
+use Rattle.std.proofs.{Common.{ap, arith, refl, sym, ◌∙◌, slice_index as nth, rules}, Math.Seq.{take-suc}, lemmas.{Bool.{cases_lt}, Fmt.{decimal_digit, first_decimal, parse-decimal}}}
 use Rattle.dgt_ask.specs.declared.details.Detail.TheVariants as detail
 use Rattle.dgt_ask.specs.declared.asking.Awaited.TheVariants as awaited
 
@@ -53,21 +53,14 @@ abbrev pub six_of : List ℕ → List ℕ
 six_of xs = nth xs 0 ∷ nth xs 1 ∷ nth xs 2 ∷ nth xs 3 ∷ nth xs 4 ∷ nth xs 5 ∷ []
 
 pub six : (xs : List ℕ) → length xs ≡ 6 → six_of xs ≡ xs
-six [] e = absurd (omega (arith, e))
-six (a ∷ []) e = absurd (omega (arith, e))
-six (a ∷ b ∷ []) e = absurd (omega (arith, e))
-six (a ∷ b ∷ c ∷ []) e = absurd (omega (arith, e))
-six (a ∷ b ∷ c ∷ d ∷ []) e = absurd (omega (arith, e))
-six (a ∷ b ∷ c ∷ d ∷ f ∷ []) e = absurd (omega (arith, e))
 six (a ∷ b ∷ c ∷ d ∷ f ∷ g ∷ []) e = refl
-six (a ∷ b ∷ c ∷ d ∷ f ∷ g ∷ h ∷ xs) e = absurd (omega (arith, e))
+six xs e = absurd (omega (arith, e))
 
 pub eight : (xs : List ℕ) → length xs ≡ 8
     → nth xs 0 ∷ nth xs 1 ∷ nth xs 2 ∷ nth xs 3 ∷ nth xs 4 ∷ nth xs 5 ∷ nth xs 6 ∷ nth xs 7 ∷ 0 ∷ []
     ≡ xs ++ 0 ∷ []
-eight [] e = absurd (omega (arith, e))
-eight (a ∷ []) e = absurd (omega (arith, e))
 eight (a ∷ b ∷ xs) e = ap (λ more. a ∷ b ∷ (more ++ 0 ∷ [])) (six xs (omega (arith, e)))
+eight xs e = absurd (omega (arith, e))
 
 -- segments show one character each
 one_place : (character byte other : ℕ) → IsShownBy character byte → IsShownBy character other
@@ -331,22 +324,3 @@ all_read line asked at next bytes order awaits end =
 pub at_end : (words : List (Bor (List ℕ))) (line : List (List ℕ)) (i : ℕ)
     → map (λ word. word.now) words ≡ line → i ≡ length words → i ≡ length line
 at_end words line i same end = search (rules, length-map)
-
--- a line that ends before an operand is refused for that
-abbrev IsMissing : Detail → Awaited → Type 0
-IsMissing word next = (next ≡ awaited.Detail word) ⊎ ((word ≡ detail.ClockMessage) × IsAfterId next)
-
-pub name_missing : (word : Detail) (next : Awaited) → next ≡ Name → IsMissing word next → ⊥
-name_missing word next is missing = search rules
-
-pub detail_missing : (word each : Detail) (next : Awaited) → next ≡ awaited.Detail each
-    → IsMissing word next → (Missing each ≡ Missing word) ⊎ (Missing each ≡ OutOfMemory)
-detail_missing word each next is missing = search rules
-
-pub bytes_missing : (word : Detail) (id : Bor (List ℕ)) (next : Awaited) → next ≡ awaited.Bytes id
-    → IsMissing word next
-    → (Missing detail.ClockMessage ≡ Missing word) ⊎ (Missing detail.ClockMessage ≡ OutOfMemory)
-bytes_missing word id next is missing = search rules
-
-pub after_id : (id : List ℕ) (next : Awaited) → AwaitsBytes id next → IsAfterId next
-after_id id next awaits = search rules

@@ -1,28 +1,17 @@
 -- The text of a command requests it.
-use Rattle.std.proofs.Common.{◌≡◌, ◌≢◌, ◌∙◌, ◌+◌, ◌/◌, ◌%◌, ◌<◌, ◌≤◌, ◌⊎◌, ℕ, zero, suc, Bool, true, false, List, [], ◌∷◌, ◌++◌, length, get_or, map, None, ap, arith, inl, inr, refl, sym}
-use Rattle.std.{proofs.{Common.{slice_index as nth, rules}, lemmas.{Bool.{eqb-true, leb-true}, Grind.{common_steps}, List.{get_or-map, length-map}, Bool.Decides.{nat_tests}}}, specs.List.{All}}
-use Rattle.{std.specs.{List.{list_all}, Prelude.{codes, decimal, find, if◌then◌else◌, ◌==◌, ◌&&◌}, Str.{IsAscii}}, hex.specs.Hex.{encode_lower, encode_with, lower_digits}}
-use Rattle.{hex.proofs.HexLemmas.{decode_of-encode_lower, decode_sized-encode_lower}, dgt_values.specs.Segment.{IsShownBy}, dgt_command.specs.Content.{ClockContent, CommandContent, Reset, Clock}}
-use Rattle.dgt_command.specs.{Content.{Dump, Update, UpdateBoard, UpdateNice, Serial, Trademark, Battery, Version, LongSerial, ClockMessage, Leds, known_clock}, Encoding.{AreBytes, EncodesCommand}}
-use Rattle.dgt_command.{specs.{Encoding.{command_encoding}, Ids.{has_own_case, has_size, id_number, id_with, known_ids}, declared.ids.KnownId.{KnownId}}, proofs.DivisionLemmas.{bytes_left}}
-use Rattle.dgt_lines.specs.{CommandWords.{command_text, display_word, is_printable, is_shown, known_words, raw_words, shown_character, text_word, words_with}, Lines.{bytes_text, words_text}}
-use Rattle.dgt_ask.specs.Asks.{AskInOrder, Asks, HasBytes, HasPayload, IsDisplay, IsText}
+use Rattle.std.proofs.Common.{◌≡◌, ◌∙◌, ◌+◌, ◌/◌, ◌%◌, ◌<◌, ◌≤◌, ◌⊎◌, ℕ, zero, suc, Bool, true, false, List, [], ◌∷◌, ◌++◌, length, get_or, map, None, arith, inl, inr, refl, sym}
+use Rattle.{std.specs.{List.{list_all}, Prelude.{decimal, find, if◌then◌else◌, ◌==◌, ◌&&◌}, Str.{IsAscii}}, hex.{specs.Hex.{encode_with, lower_digits}, proofs.HexLemmas.{decode_of-encode_lower}}}
+use Rattle.{hex.proofs.HexLemmas.{decode_sized-encode_lower}, dgt_values.specs.Segment.{IsShownBy}, dgt_command.specs.Content.{ClockContent, CommandContent, Reset, ClockMessage, Leds, known_clock}}
+use Rattle.dgt_command.specs.{Encoding.{AreBytes, EncodesCommand, command_encoding}, Ids.{has_own_case, has_size, id_number, id_with, known_ids}, declared.ids.KnownId.{KnownId}}
+use Rattle.{dgt_command.proofs.DivisionLemmas.{bytes_left}, dgt_lines.specs.CommandWords.{command_text, display_word, is_printable, is_shown, known_words, raw_words, shown_character, text_word}}
+use Rattle.{dgt_lines.specs.{CommandWords.{words_with}, Lines.{bytes_text, words_text}}, dgt_ask.specs.Asks.{AskInOrder, Asks, HasBytes, HasPayload, IsDisplay, IsText}}
+use Rattle.std.{proofs.{Common.{slice_index as nth, rules}, lemmas.{Bool.{eqb-true}, Grind.{common_steps}, List.{get_or-map, length-map}}}, specs.List.{All}}
 use Rattle.dgt_ask.specs.declared.details.Detail.TheVariants as detail
 
 -- bytes are read back from their text
-is_no_hyphen : (bytes : List ℕ) (byte : ℕ) → encode_lower (byte ∷ bytes) ≢ codes "-"
-unfolding encode_with
-is_no_hyphen bytes byte e = omega (arith, ap length e)
-
-is_some_text : (bytes : List ℕ) (byte : ℕ) → encode_lower (byte ∷ bytes) ≢ []
-unfolding encode_with
-is_some_text bytes byte e = omega (arith, ap length e)
-
 has_bytes : (bytes : List ℕ) → AreBytes bytes → HasBytes (bytes_text bytes) bytes
-has_bytes [] are = inl (refl, refl)
-has_bytes (byte ∷ bytes) are =
-    inr
-    (is_no_hyphen bytes byte, is_some_text bytes byte, decode_of-encode_lower (byte ∷ bytes) are)
+unfolding encode_with
+has_bytes bytes are = search (rules, decode_of-encode_lower)
 
 has_payload : (known : KnownId) (size : ℕ) (payload : List ℕ) → AreBytes payload
     → length payload ≡ suc size
@@ -61,9 +50,6 @@ carried message bytes encodes =
       are_bytes = bytes_left message.payload (0x00 ∷ []) (λ i. are (suc (suc (suc (suc i)))));
     }
 
-one_byte : (byte : ℕ) → byte < 256 → AreBytes (byte ∷ [])
-one_byte byte small = search rules
-
 raw_back : (message : ClockContent) → Carried message
     → has_own_case message.id (length message.payload) ≡ false
     → Asks (words_text (raw_words message.id message.payload)) (ClockMessage message)
@@ -81,7 +67,7 @@ raw_back message carries other =
         low,
         rest,
         refl,
-        decode_sized-encode_lower (message.id ∷ []) 1 refl (one_byte message.id carries.id_is_byte),
+        decode_sized-encode_lower (message.id ∷ []) 1 refl (search rules),
         has_bytes message.payload carries.are_bytes,
         carries.few,
         other,
@@ -90,16 +76,8 @@ raw_back message carries other =
 
 by_eight : (P : List ℕ → Type 0) → ((a b c d e f g h : ℕ) → P (a ∷ b ∷ c ∷ d ∷ e ∷ f ∷ g ∷ h ∷ []))
     → (xs : List ℕ) → length xs ≡ 8 → P xs
-by_eight P holds [] z = absurd (omega (arith, z))
-by_eight P holds (a ∷ []) z = absurd (omega (arith, z))
-by_eight P holds (a ∷ b ∷ []) z = absurd (omega (arith, z))
-by_eight P holds (a ∷ b ∷ c ∷ []) z = absurd (omega (arith, z))
-by_eight P holds (a ∷ b ∷ c ∷ d ∷ []) z = absurd (omega (arith, z))
-by_eight P holds (a ∷ b ∷ c ∷ d ∷ e ∷ []) z = absurd (omega (arith, z))
-by_eight P holds (a ∷ b ∷ c ∷ d ∷ e ∷ f ∷ []) z = absurd (omega (arith, z))
-by_eight P holds (a ∷ b ∷ c ∷ d ∷ e ∷ f ∷ g ∷ []) z = absurd (omega (arith, z))
 by_eight P holds (a ∷ b ∷ c ∷ d ∷ e ∷ f ∷ g ∷ h ∷ []) z = holds a b c d e f g h
-by_eight P holds (a ∷ b ∷ c ∷ d ∷ e ∷ f ∷ g ∷ h ∷ i ∷ xs) z = absurd (omega (arith, z))
+by_eight P holds xs z = absurd (omega (arith, z))
 
 by_nine : (P : List ℕ → Type 0)
     → ((a b c d e f g h i : ℕ) → P (a ∷ b ∷ c ∷ d ∷ e ∷ f ∷ g ∷ h ∷ i ∷ [])) → (xs : List ℕ)
@@ -109,7 +87,7 @@ by_nine P holds (x ∷ xs) z = by_eight (λ ys. P (x ∷ ys)) (holds x) xs (omeg
 
 shown : (segments : ℕ) → is_shown (shown_character segments) ≡ true
     → IsShownBy (shown_character segments) segments
-shown segments is = grind (arith, nat_tests)
+shown segments is = grind arith
 
 both : (a b : Bool) → a && b ≡ true → (a ≡ true) × (b ≡ true)
 both a b e = search rules
@@ -118,12 +96,8 @@ both a b e = search rules
 all_shown : (places : List ℕ) → list_all is_shown (map shown_character places) ≡ true → (i : ℕ)
     → i < length places → IsShownBy (nth (map shown_character places) i) (nth places i)
 all_shown [] are i small = absurd (omega (arith, small))
-all_shown (x ∷ xs) are zero small =
-    shown x (both (is_shown (shown_character x)) (list_all is_shown (map shown_character xs)) are).0
-all_shown (x ∷ xs) are (suc i) small =
-    all_shown xs
-    (both (is_shown (shown_character x)) (list_all is_shown (map shown_character xs)) are).1 i
-    (omega (arith, small))
+all_shown (x ∷ xs) are zero small = shown x (both _ _ are).0
+all_shown (x ∷ xs) are (suc i) small = all_shown xs (both _ _ are).1 i (omega (arith, small))
 
 -- the display of eight bytes
 display_choice : (a b c d e f g h : ℕ) → AreBytes (a ∷ b ∷ c ∷ d ∷ e ∷ f ∷ g ∷ h ∷ [])
@@ -136,10 +110,7 @@ display_choice : (a b c d e f g h : ℕ) → AreBytes (a ∷ b ∷ c ∷ d ∷ e
     (known_clock KnownId.Display (a ∷ b ∷ c ∷ d ∷ e ∷ f ∷ g ∷ h ∷ []))
 display_choice a b c d e f g h are false is = inl (has_payload KnownId.Display 7 _ are refl)
 display_choice a b c d e f g h are true is =
-    let outer = both
-    (list_all is_shown (map shown_character (c ∷ b ∷ a ∷ f ∷ e ∷ d ∷ [])) && g == 0) (h == 0) is in
-    let inner =
-    both (list_all is_shown (map shown_character (c ∷ b ∷ a ∷ f ∷ e ∷ d ∷ []))) (g == 0) outer.0 in
+    let outer = both _ (h == 0) is in let inner = both _ (g == 0) outer.0 in
     inr (
       refl,
       (
@@ -160,7 +131,7 @@ display_back payload are sized =
 
 -- the text of nine
 ascii_all : (xs : List ℕ) → list_all is_printable xs ≡ true → IsAscii xs
-ascii_all xs are = grind (arith, common_steps, both, leb-true)
+ascii_all xs are = grind (arith, common_steps)
 
 text_choice : (a b c d e f g h i : ℕ) → AreBytes (a ∷ b ∷ c ∷ d ∷ e ∷ f ∷ g ∷ h ∷ i ∷ [])
     → (plain : Bool)
@@ -171,7 +142,7 @@ text_choice : (a b c d e f g h i : ℕ) → AreBytes (a ∷ b ∷ c ∷ d ∷ e 
     (known_clock KnownId.Text (a ∷ b ∷ c ∷ d ∷ e ∷ f ∷ g ∷ h ∷ i ∷ []))
 text_choice a b c d e f g h i are false is = inl (has_payload KnownId.Text 8 _ are refl)
 text_choice a b c d e f g h i are true is =
-    let parts = both (list_all is_printable (a ∷ b ∷ c ∷ d ∷ e ∷ f ∷ g ∷ h ∷ [])) (i == 0) is in
+    let parts = both _ (i == 0) is in
     inr
     (refl, ascii_all (a ∷ b ∷ c ∷ d ∷ e ∷ f ∷ g ∷ h ∷ []) parts.0, rw (eqb-true i 0 parts.1) refl)
 
@@ -194,27 +165,17 @@ known_back KnownId.Icons payload are few size =
 known_back KnownId.End [] are few size = inl (inl (refl, refl))
 known_back KnownId.Button [] are few size = inl (inr (inl (refl, refl)))
 known_back KnownId.Version [] are few size = inl (inr (inr (refl, refl)))
-known_back KnownId.End (x ∷ payload) are few size =
-    let none : length (x ∷ payload) ≡ 0 = eqb-true _ _ size in absurd (omega (arith, none))
-known_back KnownId.Button (x ∷ payload) are few size =
-    let none : length (x ∷ payload) ≡ 0 = eqb-true _ _ size in absurd (omega (arith, none))
-known_back KnownId.Version (x ∷ payload) are few size =
-    let none : length (x ∷ payload) ≡ 0 = eqb-true _ _ size in absurd (omega (arith, none))
-known_back KnownId.SetAndRun payload are few size =
-    inr (
-      detail.SetAndRun,
-      bytes_text payload,
-      refl,
-      has_payload KnownId.SetAndRun 6 payload are (eqb-true _ _ size),
-    )
-known_back KnownId.Beep [] are few size =
-    let one : length {A = ℕ} [] ≡ 1 = eqb-true _ _ size in absurd (omega (arith, one))
+known_back KnownId.SetAndRun payload are few size = inr (
+  detail.SetAndRun,
+  bytes_text payload,
+  refl,
+  has_payload KnownId.SetAndRun 6 payload are (eqb-true _ _ size),
+)
 known_back KnownId.Beep (x ∷ []) are few size =
     inr (detail.Beep, decimal x, refl, (x, are 0, refl, refl))
-known_back KnownId.Beep (x ∷ y ∷ payload) are few size =
-    let one : length (x ∷ y ∷ payload) ≡ 1 = eqb-true _ _ size in absurd (omega (arith, one))
 known_back KnownId.Text payload are few size =
     inr (detail.Text, text_word payload, refl, text_back payload are (eqb-true _ _ size))
+known_back known payload are few size = grind arith
 
 -- an id is known, or its clock messages are of no known kind
 abbrev IsOneOf : ℕ → List KnownId → Type 0
@@ -222,26 +183,16 @@ IsOneOf number ids =
     ((known : KnownId) × (number ≡ id_number known))
     ⊎ (find (λ id. id_number id == number) ids ≡ None)
 
-is_one_of : (number : ℕ) (id : KnownId) (ids : List KnownId) → IsOneOf number ids → (is : Bool)
-    → (id_number id == number) ≡ is → IsOneOf number (id ∷ ids)
-is_one_of number id ids rest is h5 = search (rules, eqb-true)
-
 one_of : (number : ℕ) (ids : List KnownId) → IsOneOf number ids
 one_of number [] = inr refl
-one_of number (id ∷ ids) = is_one_of number id ids (one_of number ids) (id_number id == number) refl
+one_of number (id ∷ ids) = search (rules, one_of number ids)
 
 owned_back : (known : KnownId) (payload : List ℕ) → AreBytes payload → length payload ≤ 252
     → has_own_case (id_number known) (length payload) ≡ true
     → Asks (words_text (words_with (id_with (id_number known)) (id_number known) payload))
     (ClockMessage (known_clock known payload))
 owned_back KnownId.Display payload are few own = known_back KnownId.Display payload are few own
-owned_back KnownId.Icons payload are few own = known_back KnownId.Icons payload are few own
-owned_back KnownId.End payload are few own = known_back KnownId.End payload are few own
-owned_back KnownId.Button payload are few own = known_back KnownId.Button payload are few own
-owned_back KnownId.Version payload are few own = known_back KnownId.Version payload are few own
-owned_back KnownId.SetAndRun payload are few own = known_back KnownId.SetAndRun payload are few own
-owned_back KnownId.Beep payload are few own = known_back KnownId.Beep payload are few own
-owned_back KnownId.Text payload are few own = known_back KnownId.Text payload are few own
+owned_back known payload are few own = known_back known payload are few own
 
 chosen_back : (message : ClockContent) → Carried message → (own : Bool)
     → has_own_case message.id (length message.payload) ≡ own
@@ -255,25 +206,13 @@ chosen_back message carries true is = elim (one_of message.id known_ids) [
 
 clock_back : (message : ClockContent) (bytes : List ℕ) → EncodesCommand (ClockMessage message) bytes
     → Asks (command_text (ClockMessage message)) (ClockMessage message)
-clock_back message bytes encodes =
-    chosen_back message (carried message bytes encodes)
-    (has_own_case message.id (length message.payload)) refl
+clock_back message bytes encodes = search (rules, chosen_back, carried)
 
 pub asked_back : (command : CommandContent) (bytes : List ℕ) → EncodesCommand command bytes
     → Asks (command_text command) command
-asked_back Reset bytes encodes = inl refl
-asked_back Clock bytes encodes = inl refl
-asked_back Dump bytes encodes = inl refl
-asked_back Update bytes encodes = inl refl
-asked_back UpdateBoard bytes encodes = inl refl
-asked_back UpdateNice bytes encodes = inl refl
-asked_back Serial bytes encodes = inl refl
-asked_back Trademark bytes encodes = inl refl
-asked_back Battery bytes encodes = inl refl
-asked_back Version bytes encodes = inl refl
-asked_back LongSerial bytes encodes = inl refl
 asked_back (ClockMessage message) bytes encodes = clock_back message bytes encodes
 asked_back (Leds leds) bytes encodes = leds_back leds bytes encodes
+asked_back command bytes encodes = inl refl
 
 pub asked_in_order : (commands : List CommandContent)
     → All (λ command. AreBytes (command_encoding command)) commands

@@ -1,5 +1,5 @@
 -- The result of an engine, and that of its task.
-use Rattle.std.{proofs.{Common.{◌≡◌, ℕ, List, Option, Some, Result, Ok, Err, false, ap, rules}, lemmas.List.{append-nil}}, specs.{Prelude.{IsErrAnd, MatchResult, OnOk}, Io.KnownBytes.{Consumes}}}
+use Rattle.std.{proofs.{Common.{◌≡◌, ℕ, List, Option, Some, Result, Err, false, rules}}, specs.{Prelude.{IsErrAnd, MatchResult, OnOk}, Io.KnownBytes.{Consumes}}}
 use Rattle.{std.specs.Io.KnownBytes.{IsAtEnd}, dgt_lines.specs.{Turns.{HasTurns, source_mark_after}, declared.faults.RunFault.{RunFault}}, dgt_program.specs.Tasks.{IsShown, task_answer}}
 use Rattle.dgt_program.specs.declared.{fault.Fault.{Fault}, program.TheConstants.{MOST_TURNS}, fault.Fault.TheVariants.{Run}}
 
@@ -19,5 +19,4 @@ pub shown : (leaves : Result (Unit {0}) RunFault → List ℕ → List ℕ → T
     → Consumes (Some bytes) left read → false ≡ source_mark_after run false
     → OnOk run (IsAtEnd left) → HasTurns MOST_TURNS run read → leaves run read out
     → IsShown leaves run bytes out
-shown leaves bytes left run read out consumed unrefused end turns stands =
-    search (rules, append-nil)
+shown leaves bytes left run read out consumed unrefused end turns stands = search rules

@@ -1,9 +1,8 @@
 -- The vocabulary of lines with faults is ordered, and words ask for one act at most.
-use Rattle.{std.{proofs.Common.{◌≡◌, ◌≢◌, ℕ, List, [], ◌∷◌, Option, Some, None, inl, inr, length, rules}, specs.Prelude.{bytes_eq, codes, if◌then◌else◌}}, hex.specs.Hex.{decode_of}}
-use Rattle.{hex.proofs.HexLemmas.{decode_of-same}, dgt_command.specs.Laws.{EncodingsGiveCommands}, dgt_link.specs.Faults.{FaultyContent}, dgt_script.specs.FaultyScript.{AsksFaulty, faulty_kinds}}
-use Rattle.dgt_script.specs.{FaultyScript.{faulty_text, faulty_words}, Script.{AreOf, IsBadAt, plain_words, some_bytes}, ScriptWords.{verb_text, IsBytesWord}}
-use Rattle.dgt_script.{specs.declared.script_words.{FaultyVerb.{FaultyVerb}, Verb.{Verb}}, proofs.MeaningLemmas.{asks_in_order, kinds_ask, same_act, verb_named, verb_named-verb_text, verb_of}}
-use Rattle.dgt_script.proofs.{ScriptLemmas.{length-words}, ScriptWordLemmas.{IsRead}, VocabularyLemmas.{IsOrdered, none_left, one_left, one_value}}
+use Rattle.{std.{proofs.Common.{refl, ◌≡◌, ◌≢◌, ℕ, List, [], ◌∷◌, Option, Some, None, inl, inr, rules}, specs.Prelude.{bytes_eq, codes, if◌then◌else◌}}, hex.proofs.HexLemmas.{decode_of-same}}
+use Rattle.{dgt_command.specs.Laws.{EncodingsGiveCommands}, dgt_link.specs.Faults.{FaultyContent}, dgt_script.specs.FaultyScript.{AsksFaulty, faulty_kinds, faulty_text, faulty_words}}
+use Rattle.dgt_script.{specs.{Script.{AreOf, IsBadAt, plain_words}, declared.script_words.{FaultyVerb.{FaultyVerb}, Verb.{Verb}}}, proofs.MeaningLemmas.{asks_in_order, kinds_ask, same_act}}
+use Rattle.dgt_script.proofs.{MeaningLemmas.{verb_named, verb_named-verb_text, verb_of}, ScriptLemmas.{length-words}, ScriptWordLemmas.{IsRead}, VocabularyLemmas.{IsOrdered, one_value}}
 use Rattle.dgt_script.specs.declared.script_words.FaultyVerb.TheVariants as faulty
 
 -- ---- The first word
@@ -40,28 +39,20 @@ pub asks_faulty_in_order : (parts : List (List ℕ)) (act : FaultyContent) → A
 asks_faulty_in_order parts (FaultyContent.Plain act) h = asks_in_order parts act h
 asks_faulty_in_order parts (FaultyContent.GarbleUp bytes) h = (h.0 ∷ [], h.1, ((bytes, h.2), tt))
 asks_faulty_in_order parts (FaultyContent.GarbleDown bytes) h = (h.0 ∷ [], h.1, ((bytes, h.2), tt))
-asks_faulty_in_order parts FaultyContent.BoardLost h = ([], h, tt)
-asks_faulty_in_order parts FaultyContent.Restart h = ([], h, tt)
-asks_faulty_in_order parts FaultyContent.GiveUp h = ([], h, tt)
+asks_faulty_in_order parts act h = ([], h, tt)
 
 -- an act for each list of words of the right kinds
 pub faulty_kinds_ask : (named : FaultyVerb) (rest : List (List ℕ)) → AreOf (faulty_kinds named) rest
     → (act : FaultyContent) × AsksFaulty (faulty_text named ∷ rest) act
 faulty_kinds_ask (faulty.Plain named) rest h =
     let plain = kinds_ask named rest h in (FaultyContent.Plain plain.0, plain.1)
-faulty_kinds_ask faulty.GarbleUp rest h =
-    let word = one_left some_bytes IsBytesWord (λ w of. of) (faulty_text faulty.GarbleUp) rest h in
-    (FaultyContent.GarbleUp word.0, word.1)
-faulty_kinds_ask faulty.GarbleDown rest h =
-    let word =
-    one_left some_bytes IsBytesWord (λ w of. of) (faulty_text faulty.GarbleDown) rest h in
-    (FaultyContent.GarbleDown word.0, word.1)
-faulty_kinds_ask faulty.BoardLost rest h =
-    (FaultyContent.BoardLost, none_left (faulty_text faulty.BoardLost) rest h)
-faulty_kinds_ask faulty.Restart rest h =
-    (FaultyContent.Restart, none_left (faulty_text faulty.Restart) rest h)
-faulty_kinds_ask faulty.GiveUp rest h =
-    (FaultyContent.GiveUp, none_left (faulty_text faulty.GiveUp) rest h)
+faulty_kinds_ask faulty.GarbleUp (word ∷ []) h = (FaultyContent.GarbleUp h.0.0, (word, refl, h.0.1))
+faulty_kinds_ask faulty.GarbleDown (word ∷ []) h =
+    (FaultyContent.GarbleDown h.0.0, (word, refl, h.0.1))
+faulty_kinds_ask faulty.BoardLost [] h = (FaultyContent.BoardLost, refl)
+faulty_kinds_ask faulty.Restart [] h = (FaultyContent.Restart, refl)
+faulty_kinds_ask faulty.GiveUp [] h = (FaultyContent.GiveUp, refl)
+faulty_kinds_ask named rest h = search rules
 
 abbrev pub faulty_order : IsOrdered faulty_words
 faulty_order = record {

@@ -1,8 +1,8 @@
 -- The vocabulary of plain lines is ordered, and words ask for one act at most.
-use Rattle.{std.{proofs.Common.{◌≡◌, ℕ, List, [], ◌∷◌, Option, Some, None, refl, ap, rules}, specs.Prelude.{bytes_eq, if◌then◌else◌}}, dgt_command.specs.Laws.{EncodingsGiveCommands}}
-use Rattle.{dgt_link.specs.Act.{ActContent, Change, ClockRead, Host, BoardSend, ToBoard, ToHost, Break, HostBreak}, dgt_script.specs.Script.{AreOf, Asks, a_clock, a_command, a_count, kinds_after}}
-use Rattle.dgt_script.{specs.{Script.{plain_words}, ScriptWords.{verb_text, IsClockWord, IsCommandWord, IsCountWord}, declared.script_words.Verb.{Verb}}, proofs.ScriptWordLemmas.{IsRead, one_clock}}
-use Rattle.dgt_script.proofs.{ScriptWordLemmas.{one_command, one_count, one_piece, one_square}, VocabularyLemmas.{IsOrdered, none_left, one_left, one_value}}
+use Rattle.{std.{proofs.Common.{◌≡◌, ℕ, List, [], ◌∷◌, Option, Some, None, refl, rules}, specs.Prelude.{bytes_eq, if◌then◌else◌}}, dgt_command.specs.Laws.{EncodingsGiveCommands}}
+use Rattle.{dgt_link.specs.Act.{ActContent, Change, ClockRead, Host, BoardSend, ToBoard, ToHost, Break, HostBreak}, dgt_script.specs.Script.{AreOf, Asks, kinds_after, plain_words}}
+use Rattle.dgt_script.{specs.{ScriptWords.{verb_text}, declared.script_words.Verb.{Verb}}, proofs.ScriptWordLemmas.{IsRead, one_clock, one_command, one_count, one_piece, one_square}}
+use Rattle.dgt_script.proofs.VocabularyLemmas.{IsOrdered, one_value}
 use Rattle.dgt_script.specs.declared.script_words.Verb.TheVariants as verb
 
 -- ---- The first word
@@ -38,62 +38,43 @@ pub asks_in_order : (parts : List (List ℕ)) (act : ActContent) → Asks parts 
     × AreOf (kinds_after (verb_of act)) rest
 asks_in_order parts (Change square piece) h =
     (h.0 ∷ h.1 ∷ [], h.2, ((square, h.3), ((piece, h.4), tt)))
-asks_in_order parts (ClockRead clock) h = (h.0 ∷ [], h.1, ((clock, h.2), tt))
-asks_in_order parts (Host command) h = (h.0 ∷ [], h.1, ((command, h.2), tt))
 asks_in_order parts BoardSend h = ([], h, tt)
-asks_in_order parts (ToBoard count) h = (h.0 ∷ [], h.1, ((count, h.2), tt))
-asks_in_order parts (ToHost count) h = (h.0 ∷ [], h.1, ((count, h.2), tt))
 asks_in_order parts Break h = ([], h, tt)
 asks_in_order parts HostBreak h = ([], h, tt)
+asks_in_order parts act h = (h.0 ∷ [], h.1, ((_, h.2), tt))
 
 -- an act for each list of words of the right kinds
 pub kinds_ask : (named : Verb) (rest : List (List ℕ)) → AreOf (kinds_after named) rest
     → (act : ActContent) × Asks (verb_text named ∷ rest) act
 kinds_ask verb.Change (first ∷ second ∷ []) h =
     (Change h.0.0 h.1.0.0, (first, second, refl, h.0.1, h.1.0.1))
-kinds_ask verb.Change [] h = absurd h
-kinds_ask verb.Change (first ∷ []) h = absurd h.1
-kinds_ask verb.Change (first ∷ second ∷ third ∷ rest) h = absurd h.1.1
-kinds_ask verb.Clock rest h =
-    let word = one_left a_clock IsClockWord (λ w of. of) (verb_text verb.Clock) rest h in
-    (ClockRead word.0, word.1)
-kinds_ask verb.Host rest h =
-    let word = one_left a_command IsCommandWord (λ w of. of) (verb_text verb.Host) rest h in
-    (Host word.0, word.1)
-kinds_ask verb.Send rest h = (BoardSend, none_left (verb_text verb.Send) rest h)
-kinds_ask verb.ToBoard rest h =
-    let word = one_left a_count IsCountWord (λ w of. of) (verb_text verb.ToBoard) rest h in
-    (ToBoard word.0, word.1)
-kinds_ask verb.ToHost rest h =
-    let word = one_left a_count IsCountWord (λ w of. of) (verb_text verb.ToHost) rest h in
-    (ToHost word.0, word.1)
-kinds_ask verb.Break rest h = (Break, none_left (verb_text verb.Break) rest h)
-kinds_ask verb.HostBreak rest h = (HostBreak, none_left (verb_text verb.HostBreak) rest h)
+kinds_ask verb.Clock (word ∷ []) h = (ClockRead h.0.0, (word, refl, h.0.1))
+kinds_ask verb.Host (word ∷ []) h = (Host h.0.0, (word, refl, h.0.1))
+kinds_ask verb.Send [] h = (BoardSend, refl)
+kinds_ask verb.ToBoard (word ∷ []) h = (ToBoard h.0.0, (word, refl, h.0.1))
+kinds_ask verb.ToHost (word ∷ []) h = (ToHost h.0.0, (word, refl, h.0.1))
+kinds_ask verb.Break [] h = (Break, refl)
+kinds_ask verb.HostBreak [] h = (HostBreak, refl)
+kinds_ask named rest h = search rules
 
 abbrev pub plain_order : IsOrdered plain_words
-plain_order =
-    record {
-      named = verb_named;
-      names = verb_named-verb_text;
-      verb_of = verb_of;
-      begins =
-          asks_in_order;
-    }
+plain_order = record {
+  named = verb_named;
+  names = verb_named-verb_text;
+  verb_of = verb_of;
+  begins = asks_in_order;
+}
 
 -- ---- One act
 
 pub same_act : IsRead → EncodingsGiveCommands → (parts : List (List ℕ)) (a b : ActContent)
     → verb_of a ≡ verb_of b → Asks parts a → Asks parts b → a ≡ b
 same_act exact gives parts (Change s p) (Change t q) e h k = search (rules, one_square, one_piece)
-same_act exact gives parts (ClockRead s) (ClockRead t) e h k =
-    ap ClockRead (one_value IsClockWord (one_clock exact) (verb_text verb.Clock) parts s t h k)
-same_act exact gives parts (Host s) (Host t) e h k =
-    ap Host (one_value IsCommandWord (one_command gives) (verb_text verb.Host) parts s t h k)
+same_act exact gives parts (ClockRead s) (ClockRead t) e h k = search (rules, one_value, one_clock)
+same_act exact gives parts (Host s) (Host t) e h k = search (rules, one_value, one_command)
+same_act exact gives parts (ToBoard s) (ToBoard t) e h k = search (rules, one_value, one_count)
+same_act exact gives parts (ToHost s) (ToHost t) e h k = search (rules, one_value, one_count)
 same_act exact gives parts BoardSend BoardSend e h k = refl
-same_act exact gives parts (ToBoard s) (ToBoard t) e h k =
-    ap ToBoard (one_value IsCountWord one_count (verb_text verb.ToBoard) parts s t h k)
-same_act exact gives parts (ToHost s) (ToHost t) e h k =
-    ap ToHost (one_value IsCountWord one_count (verb_text verb.ToHost) parts s t h k)
 same_act exact gives parts Break Break e h k = refl
 same_act exact gives parts HostBreak HostBreak e h k = refl
 same_act exact gives parts a b e h k = cc e

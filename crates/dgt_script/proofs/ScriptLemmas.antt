@@ -1,9 +1,9 @@
 -- The words of a script's lines, and where they go wrong.
-use Rattle.std.proofs.Common.{◌≡◌, ◌≢◌, ℕ, ◌+◌, ◌-◌, ◌<◌, ◌≤◌, ◌==◌, List, [], ◌∷◌, Option, Some, None, sym, ◌∙◌, ap, subst, arith, false, true, get_or, inl, inr, length, length-append, take, drop}
-use Rattle.std.proofs.{Common.{rules}, lemmas.{List.{get_or-take, length-drop, length-take-le, take_all}, Bool.Decides.{eqb_tells}, List.Splits.{join_with_byte-slice_split, length-slice_split}}}
-use Rattle.std.{proofs.lemmas.List.{Splits.{slice_split_first, slice_split_none}, Sums.{fails_before_first, position_or_len_is}}, specs.{Borrow.{Bor}, List.{position_or_len}, Prelude.{All}}}
-use Rattle.{std.specs.{Prelude.{slice_index}, Slice.{IsGetRangeResult}}, dgt_script.specs.{Script.{AsksFor, GoesWrong, IsBadAt, IsOf, Vocabulary, WordKind, words}, ScriptReading.{left_words}}}
-use Rattle.dgt_script.specs.{ScriptReading.{GoesWrongBefore}, ScriptWords.{words_text}, declared.script.Wrong.{Wrong}}
+use Rattle.std.proofs.Common.{◌≡◌, ◌≢◌, ℕ, ◌+◌, ◌-◌, ◌<◌, ◌≤◌, ◌==◌, List, [], ◌∷◌, Option, Some, None, sym, ◌∙◌, ap, subst, arith, false, true, get_or, inl, inr, length, length-append, take, rules}
+use Rattle.std.proofs.lemmas.{List.{get_or-take, length-drop, length-take-le, take_all, Splits.{join_with_byte-slice_split, length-slice_split, slice_split_first}}, Bool.Decides.{eqb_tells}}
+use Rattle.std.{proofs.lemmas.List.{Splits.{slice_split_none}, Sums.{fails_before_first, position_or_len_is}}, specs.{Borrow.{Bor}, List.{position_or_len}, Prelude.{All, slice_index}}}
+use Rattle.{std.specs.Slice.{IsGetRangeResult}, dgt_script.specs.{Script.{AsksFor, GoesWrong, IsBadAt, IsOf, Vocabulary, WordKind, words}, ScriptReading.{left_words, GoesWrongBefore}}}
+use Rattle.dgt_script.specs.{ScriptWords.{words_text}, declared.script.Wrong.{Wrong}}
 
 -- the words of a line make the line
 pub words_text-words : (line : List ℕ) → words_text (words line) ≡ line
@@ -40,12 +40,11 @@ words_text-tail word parts = search (rules, length-append)
 goes_wrong_within : (kinds : List WordKind) (parts bad : List (List ℕ)) → GoesWrong kinds parts bad
     → length (words_text bad) ≤ length (words_text parts)
 goes_wrong_within [] [] bad h = absurd h
-goes_wrong_within [] (word ∷ parts) bad h = let e = ap (λ l. length (words_text l)) h in omega arith
-goes_wrong_within (kind ∷ kinds) [] bad h = let e = ap (λ l. length (words_text l)) h in omega arith
 goes_wrong_within (kind ∷ kinds) (word ∷ parts) bad (inl h) =
     let e = ap (λ l. length (words_text l)) h.1 in omega arith
 goes_wrong_within (kind ∷ kinds) (word ∷ parts) bad (inr h) =
     search (rules, words_text-tail, goes_wrong_within kinds parts bad h.1)
+goes_wrong_within kinds parts bad h = let e = ap (λ l. length (words_text l)) h in omega arith
 
 -- ---- The first word
 

@@ -34,9 +34,7 @@ not_ok r x e h = absurd (let clash : false ≡ true = rw e at h in cc clash)
 
 -- the name of a square is text
 pub square_is_text : (word : List ℕ) (square : ℕ) → IsSquareWord word square → IsUtf8 word
-square_is_text word square h =
-    rw h.1 (IsUtf8-from_ascii (square_name square)
-    (search rules))
+square_is_text word square h = rw h.1 (IsUtf8-from_ascii (square_name square) (search rules))
 
 -- a word names one square at most
 pub one_square : (word : List ℕ) (a b : ℕ) → IsSquareWord word a → IsSquareWord word b → a ≡ b

@@ -1,19 +1,8 @@
 -- No line has two meanings in an ordered vocabulary.
-use Rattle.{std.{proofs.Common.{◌≡◌, ℕ, List, [], ◌∷◌, Option, Some, sym, ◌∙◌, inl, inr, rules}, specs.Prelude.{◌↔◌}}, dgt_script.specs.Script.{AreOf, AsksFor, GoesWrong, HasWordAfter, IsBadAt, IsOf}}
-use Rattle.dgt_script.specs.Script.{IsSingleValued, Vocabulary, WordKind, words}
+use Rattle.{std.{proofs.Common.{◌≡◌, ℕ, List, [], ◌∷◌, Option, Some, sym, ◌∙◌, inl, inr, rules}, specs.Prelude.{◌↔◌}}, dgt_script.specs.Script.{AreOf, AsksFor, GoesWrong, HasWordAfter, IsBadAt}}
+use Rattle.dgt_script.specs.Script.{IsSingleValued, Vocabulary, WordKind}
 
 -- ---- Words after the first one
-
--- no word, if there should be none
-pub none_left : (first : List ℕ) (rest : List (List ℕ)) → AreOf [] rest → first ∷ rest ≡ first ∷ []
-none_left first rest f = search rules
-
--- one word and its value, if there should be one
-pub one_left : {A : Type 0} (kind : WordKind) (has_value : List ℕ → A → Type 0)
-    → ((word : List ℕ) → IsOf kind word → (value : A) × has_value word value)
-    → (first : List ℕ) (rest : List (List ℕ)) → AreOf (kind ∷ []) rest
-    → (value : A) × HasWordAfter first has_value (first ∷ rest) value
-one_left kind has_value of first rest f = search rules
 
 -- one word has one value, if each has
 pub one_value : {A : Type 0} (has_value : List ℕ → A → Type 0)
@@ -24,12 +13,10 @@ one_value has_value one first parts a b h k = search rules
 
 allowed_not_wrong : (kinds : List WordKind) (parts bad : List (List ℕ)) → AreOf kinds parts
     → GoesWrong kinds parts bad → ⊥
-allowed_not_wrong [] [] bad f g = g
-allowed_not_wrong [] (word ∷ parts) bad f g = f
-allowed_not_wrong (kind ∷ kinds) [] bad f g = f
 allowed_not_wrong (kind ∷ kinds) (word ∷ parts) bad f (inl g) = g.0 f.0
 allowed_not_wrong (kind ∷ kinds) (word ∷ parts) bad f (inr g) =
     allowed_not_wrong kinds parts bad f.1 g.1
+allowed_not_wrong kinds parts bad f g = search rules
 
 one_wrong : (kinds : List WordKind) (parts a b : List (List ℕ)) → GoesWrong kinds parts a
     → GoesWrong kinds parts b → a ≡ b

@@ -1,10 +1,6 @@
 -- The facts that a board's answer determines.
-use Rattle.{std.proofs.Common.{◌≡◌, List, [], ◌∷◌, ◌++◌, sym, ◌∙◌, ap, subst, length, arith, append_assoc, rules}, dgt_message.specs.Encoding.{encoding}, dgt_lines.specs.Monitoring.{IsPrefix}}
-use Rattle.dgt_text.specs.{Conversation.{EachIsAnsweredOnce, EachPrefixGoesOn, Exchange, bytes_sent, sent}, Ends.{BrokenAnswersBegin, OneAnswer, OneIsCutOff}}
-use Rattle.dgt_text.proofs.ConversationLemmas.{bytes_sent-append}
-
-pub one_answer : EachIsAnsweredOnce → OneAnswer
-one_answer once = search rules
+use Rattle.{std.proofs.Common.{◌≡◌, List, [], ◌∷◌, ◌++◌, sym, ap, length, arith, append_assoc, rules}, dgt_message.specs.Encoding.{encoding}, dgt_lines.specs.Monitoring.{IsPrefix}}
+use Rattle.dgt_text.{specs.{Conversation.{EachPrefixGoesOn, Exchange, bytes_sent, sent}, Ends.{BrokenAnswersBegin, OneIsCutOff}}, proofs.ConversationLemmas.{bytes_sent-append}}
 
 pub broken_answers_begin : EachPrefixGoesOn → BrokenAnswersBegin
 broken_answers_begin goes_on before after last bytes out whole p q =
@@ -14,18 +10,12 @@ broken_answers_begin goes_on before after last bytes out whole p q =
 pub one_is_cut_off : OneIsCutOff
 one_is_cut_off first second out p = go p.before p.whole p.sure
   where
-    first_of : (x : Exchange) (xs : List Exchange)
-        → sent first ∷ sent second ∷ [] ≡ x ∷ xs ++ p.last → x ≡ sent first
-    first_of x xs e = cc
-
     go : (before : List Exchange) → sent first ∷ sent second ∷ [] ≡ before ++ p.last
         → IsPrefix (bytes_sent before) out → IsPrefix (encoding first) out
     go [] e sure =
         let two : length p.last ≡ 2 = sym (ap length e) in
         let one = p.one in absurd (omega (arith, two, one))
     go (x ∷ xs) e sure =
-        let begins =
-        subst (λ (s : Exchange). IsPrefix (bytes_sent (s ∷ xs)) out) (first_of x xs e) sure in (
-          bytes_sent xs ++ begins.0,
-          begins.1 ∙ append_assoc (encoding first) (bytes_sent xs) begins.0,
-        )
+        let same : x ≡ sent first = cc in
+        let begins : IsPrefix (bytes_sent (sent first ∷ xs)) out = rw same at sure in
+        search (rules, append_assoc)

@@ -9,8 +9,7 @@ Longer long short = (more : List (List ℕ)) × (long ≡ short ++ more)
 
 longer_by_one : (l k : List ℕ) (ls ks : List (List ℕ)) → l ≡ k → Longer ls ks
     → Longer (l ∷ ls) (k ∷ ks)
-longer_by_one l k ls ks e h =
-    (h.0, ap (λ (x : List ℕ). x ∷ ls) e ∙ ap (λ (x : List (List ℕ)). k ∷ x) h.1)
+longer_by_one l k ls ks e h = search rules
 
 -- the first of a line and more lines, and what is after it
 first_lines : (l k : List ℕ) (ls ks : List (List ℕ)) (r s : List ℕ) → All HasNoFeed (l ∷ ls)
@@ -28,8 +27,7 @@ nested (l ∷ ls) (k ∷ ks) r s f g e =
     go first.0 (nested ls ks r s (rest_of HasNoFeed l ls f) (rest_of HasNoFeed k ks g) first.1)
   where
     go : l ≡ k → Longer ls ks ⊎ Longer ks ls → Longer (l ∷ ls) (k ∷ ks) ⊎ Longer (k ∷ ks) (l ∷ ls)
-    go same (inl h) = inl (longer_by_one l k ls ks same h)
-    go same (inr h) = inr (longer_by_one k l ks ls (sym same) h)
+    go same either = search (rules, longer_by_one)
 
 -- lines are the first of the whole ones, if what is after these has no line feed
 within : (ls ws : List (List ℕ)) (r rest : List ℕ) → All HasNoFeed ls → All HasNoFeed ws
@@ -51,10 +49,8 @@ begins_whole bytes rest lines whole cut h5 = search (rules, within, true≢false
 pub begins_all : (at_end : Bool) (bytes rest : List ℕ) (lines whole : List (List ℕ))
     → IsCut bytes whole rest → BeginsWith at_end bytes lines → Longer (all_lines whole rest) lines
 begins_all at_end bytes rest lines whole cut (inl p) =
-    let h = within lines whole p.0 rest p.2 cut.each cut.last (sym p.1 ∙ cut.whole) in (
-      all_lines h.0 rest,
-      ap (λ (l : List (List ℕ)). all_lines l rest) h.1 ∙ all_lines-append lines h.0 rest,
-    )
+    let h = within lines whole p.0 rest p.2 cut.each cut.last (sym p.1 ∙ cut.whole) in
+    (all_lines h.0 rest, ap (λ l. all_lines l rest) h.1 ∙ all_lines-append lines h.0 rest)
 begins_all at_end bytes rest lines whole cut (inr p) =
     let same = cut_once bytes p.0 whole p.1 rest p.2 cut in
     search (rules, append-nil)

@@ -1,8 +1,8 @@
 -- Conversations of a board.
 use Rattle.std.proofs.Common.{◌≡◌, ℕ, ◌<◌, ◌≤◌, suc, zero, List, [], ◌∷◌, ◌++◌, Option, Some, None, refl, sym, ◌∙◌, ap, subst, length, arith, append_assoc, append-nil, rules}
-use Rattle.{std.proofs.{Math.ListN.{length-set}, lemmas.Option.{none-some, same_Some}}, dgt_message.specs.Content.{Content}, dgt_command.specs.{Content.{EventContent}, Encoding.{AreBytes}}}
-use Rattle.{dgt_command.specs.{Laws.{DivisionsAppend, EachDividesOnce, PrefixesDivideFirst}, Words.{IsWord, IsPartial, Divides}}, dgt_board.specs.Sending.{after_sending, left_to_send, next_message}}
-use Rattle.{dgt_board.specs.{Sending.{reported_squares_after}, State.{BoardState, effect}, View.{BoardView, after_bytes}}, dgt_text.specs.Conversation.{Exchange, sent, heard, Converses, events_heard}}
+use Rattle.{std.proofs.{lemmas.{List.{append_cancel_left}, Option.{none-some, same_Some}}, Math.ListN.{length-set}}, dgt_message.specs.Content.{Content}, dgt_command.specs.Content.{EventContent}}
+use Rattle.{dgt_command.specs.{Encoding.{AreBytes}, Laws.{DivisionsAppend, EachDividesOnce, PrefixesDivideFirst}, Words.{IsWord, IsPartial}}, dgt_board.specs.Sending.{after_sending, left_to_send}}
+use Rattle.{dgt_board.specs.{Sending.{next_message}, State.{BoardState, effect}, View.{BoardView, after_bytes}}, dgt_text.specs.Conversation.{Exchange, sent, heard, Converses, events_heard}}
 use Rattle.dgt_text.specs.Conversation.{bytes_sent, Hears, HearsPrefix, EachIsAnswered, EachIsAnsweredOnce, EachPrefixGoesOn}
 
 -- ---- steps in a row
@@ -18,14 +18,11 @@ converses-append b (heard event ∷ s) t c d p q =
 pub events_heard-append : (s t : List Exchange)
     → events_heard (s ++ t) ≡ events_heard s ++ events_heard t
 events_heard-append [] t = refl
-events_heard-append (sent message ∷ s) t = events_heard-append s t
-events_heard-append (heard event ∷ s) t =
-    ap (λ (l : List EventContent). event ∷ l) (events_heard-append s t)
+events_heard-append (step ∷ s) t = search (rules, events_heard-append s t)
 
 pub bytes_sent-append : (s t : List Exchange) → bytes_sent (s ++ t) ≡ bytes_sent s ++ bytes_sent t
 bytes_sent-append [] t = refl
-bytes_sent-append (sent message ∷ s) t = search (rules, append_assoc, bytes_sent-append s t)
-bytes_sent-append (heard event ∷ s) t = bytes_sent-append s t
+bytes_sent-append (step ∷ s) t = search (rules, append_assoc, bytes_sent-append s t)
 
 pub hears_then : DivisionsAppend
     → (old mid new : BoardView) (s t : List ℕ) (steps more : List Exchange) → Hears old s steps mid
@@ -49,8 +46,7 @@ prefix_longer old new s t steps p = search (rules, append_assoc)
 
 pub prefix_whole : (old new : BoardView) (s : List ℕ) (steps : List Exchange)
     → Hears old s steps new → HearsPrefix old s steps new
-prefix_whole old new s steps p =
-    record { prefix = s; rest = []; whole = sym (append-nil s); hears = p }
+prefix_whole old new s steps p = search (rules, append-nil)
 
 -- ---- one step
 
@@ -64,8 +60,7 @@ converses-sent old mid new steps message p next is = search (rules, converses-ap
 pub hears_nothing : (old new : BoardView) (steps : List Exchange)
     → Converses old.state steps new.state → events_heard steps ≡ [] → new.partial ≡ old.partial
     → IsPartial new.partial → Hears old [] steps new
-hears_nothing old new steps p none is partial =
-    record { conversation = p; heard = rw none (append-nil old.partial ∙ sym is, partial) }
+hears_nothing old new steps p none is partial = search (rules, append-nil)
 
 -- bytes that end a word
 pub hears_word : IsPartial [] → (old new : BoardView) (bytes : List ℕ) (event : EventContent)
@@ -76,8 +71,7 @@ hears_word nothing old new bytes event none word is = search (rules, append-nil)
 -- bytes that end none
 pub hears_part : (old new : BoardView) (bytes : List ℕ) → IsPartial (old.partial ++ bytes)
     → new ≡ after_bytes old bytes None → Hears old bytes [] new
-hears_part old new bytes partial is =
-    rw is (record { conversation = refl; heard = (refl, partial) })
+hears_part old new bytes partial is = search rules
 
 -- ---- each board answers
 
@@ -86,18 +80,10 @@ record IsWhole (board : BoardState) : Type 0 where
   pub squares : length board.squares ≡ 64
   pub reported_squares : length board.reported_squares ≡ 64
 
-reported_length : (board : BoardState) (message : Content) → IsWhole board
-    → length (reported_squares_after board message) ≡ 64
-reported_length board message whole = search (rules, length-set)
-
 whole_after_sending : (board : BoardState) (message : Content) → IsWhole board
     → IsWhole (after_sending board message)
 whole_after_sending board message whole =
-    record { squares = whole.squares; reported_squares = reported_length board message whole }
-
-whole_after_event : (board : BoardState) (event : EventContent) → IsWhole board
-    → IsWhole (effect board event)
-whole_after_event board event whole = search rules
+    record { squares = whole.squares; reported_squares = search (rules, length-set) }
 
 abbrev Lowers : Type 0
 Lowers = (board : BoardState) (message : Content) → length board.reported_squares ≡ 64
@@ -114,19 +100,9 @@ record GoesOn (board : BoardState) (events : List EventContent) : Type 0 where
   pub heard : events_heard steps ≡ events
 
 sends_first : (board : BoardState) (next : Option Content) → next_message board ≡ next
-    → IsWhole board
-    → ((message : Content) → next_message board ≡ Some message
+    → IsWhole board → ((message : Content) → next_message board ≡ Some message
     → GoesOn (after_sending board message) []) → GoesOn board []
-sends_first board None is whole rest =
-    record {
-      steps = [];
-      after = board;
-      whole = whole;
-      conversation = refl;
-      settled = is;
-      heard =
-          refl;
-    }
+sends_first board None is whole rest = search rules
 sends_first board (Some message) is whole rest =
     let more = rest message is in
     record {
@@ -151,8 +127,8 @@ goes_on : Lowers → (board : BoardState) (events : List EventContent) → IsWho
 goes_on lowers board [] whole = sends_all lowers (left_to_send board) board whole (omega arith)
 goes_on lowers board (event ∷ events) whole =
     let first = sends_all lowers (left_to_send board) board whole (omega arith) in
-    let more = goes_on lowers (effect first.after event) events
-    (whole_after_event first.after event first.whole) in
+    let squares = first.whole in
+    let more = goes_on lowers (effect first.after event) events (search rules) in
     record {
       steps = first.steps ++ heard event ∷ more.steps;
       after = more.after;
@@ -182,15 +158,6 @@ abbrev Continues : List Exchange → List Exchange → BoardState → BoardState
 Continues steps others between after =
     (more : List Exchange) × (others ≡ steps ++ more) × Converses between more after
 
-one_more : (step another : Exchange) (steps others : List Exchange) (between after : BoardState)
-    → another ≡ step → Continues steps others between after
-    → Continues (step ∷ steps) (another ∷ others) between after
-one_more step another steps others between after same rest = (
-  rest.0,
-  ap (λ (s : Exchange). s ∷ others) same ∙ ap (λ (l : List Exchange). step ∷ l) rest.1,
-  rest.2,
-)
-
 -- a conversation that ends with nothing to report goes on from each that hears the first of its
 -- events
 follows : (board between after : BoardState) (steps others : List Exchange)
@@ -199,24 +166,18 @@ follows : (board between after : BoardState) (steps others : List Exchange)
     → Continues steps others between after
 follows board between after [] others events p q settled is =
     (others, refl, subst (λ x. Converses x others after) p q)
-follows board between after (sent message ∷ steps) [] events p q settled is =
-    absurd (none-some message (sym settled ∙ ap next_message (sym q) ∙ p.0))
 follows board between after (sent message ∷ steps) (sent later ∷ others) events p q settled is =
     let same : later ≡ message = same_Some later message (sym q.0 ∙ p.0) in
-    one_more (sent message) (sent later) steps others between after (ap sent same)
-    (follows (after_sending board message) between after steps others events p.1
-    (subst (λ (m : Content). Converses (after_sending board m) others after) same q.1) settled is)
-follows board between after (sent message ∷ steps) (heard event ∷ others) events p q settled is =
-    search (rules, none-some)
-follows board between after (heard event ∷ steps) [] events p q settled is = absurd (cc)
-follows board between after (heard event ∷ steps) (sent message ∷ others) events p q settled is =
-    search (rules, none-some)
+    let rest = follows (after_sending board message) between after steps others events p.1
+    (rw same at q.1) settled is in
+    search rules
 follows board between after (heard event ∷ steps) (heard later ∷ others) events p q settled is =
     let same : later ≡ event = cc in
     let left : events_heard others ≡ events_heard steps ++ events = cc in
-    one_more (heard event) (heard later) steps others between after (ap heard same)
-    (follows (effect board event) between after steps others events p.1
-    (subst (λ (e : EventContent). Converses (effect board e) others after) same q.1) settled left)
+    let rest = follows (effect board event) between after steps others events p.1 (rw same at q.1)
+    settled left in
+    search rules
+follows board between after steps others events p q settled is = search (rules, none-some)
 
 pub each_prefix_goes_on : PrefixesDivideFirst → EachPrefixGoesOn
 each_prefix_goes_on prefixes before between after bytes steps others prefix answers =
@@ -226,9 +187,7 @@ each_prefix_goes_on prefixes before between after bytes steps others prefix answ
 nothing_more : (board after : BoardState) (steps : List Exchange) → next_message board ≡ None
     → Converses board steps after → events_heard steps ≡ [] → (steps ≡ []) × (board ≡ after)
 nothing_more board after [] settled p none = (refl, p)
-nothing_more board after (sent message ∷ steps) settled p none =
-    absurd (none-some message (sym settled ∙ p.0))
-nothing_more board after (heard event ∷ steps) settled p none = absurd (cc)
+nothing_more board after (step ∷ steps) settled p none = search (rules, none-some)
 
 pub each_is_answered_once : EachDividesOnce → EachIsAnsweredOnce
 each_is_answered_once divisions before after other bytes steps others p q =
@@ -236,20 +195,12 @@ each_is_answered_once divisions before after other bytes steps others p q =
     (events_heard others) after.partial other.partial p.hears.heard q.hears.heard in
     let rest = follows before.state after.state other.state steps others [] p.hears.conversation
     q.hears.conversation q.settled (sym same.0 ∙ sym (append-nil (events_heard steps))) in
-    let none : events_heard rest.0 ≡ [] = no_more (events_heard steps) (events_heard rest.0)
-    (same.0 ∙ ap events_heard rest.1 ∙ events_heard-append steps rest.0) in
-    let last = nothing_more after.state other.state rest.0 p.settled rest.2 none in (
+    let none : [] ≡ events_heard rest.0 = append_cancel_left (events_heard steps) [] _
+    (append-nil _ ∙ same.0 ∙ ap events_heard rest.1 ∙ events_heard-append steps rest.0) in
+    let last = nothing_more after.state other.state rest.0 p.settled rest.2 (sym none) in (
       sym (rest.1 ∙ ap (λ (l : List Exchange). steps ++ l) last.0 ∙ append-nil steps),
       views after other last.1 same.1,
     )
   where
-    no_more : (xs ys : List EventContent) → xs ≡ xs ++ ys → ys ≡ []
-    no_more [] ys h = sym h
-    no_more (x ∷ xs) ys h = no_more xs ys (cc)
-
     views : (a b : BoardView) → a.state ≡ b.state → a.partial ≡ b.partial → a ≡ b
-    views a b h k =
-        ap
-        (λ (s : BoardState). let view : BoardView = record { state = s; partial = a.partial } in
-        view) h ∙ ap
-        (λ (l : List ℕ). let view : BoardView = record { state = b.state; partial = l } in view) k
+    views a b h k = search rules

@@ -1,9 +1,8 @@
 -- A script has one end.
-use Rattle.std.proofs.{Common.{◌≡◌, ◌⊎◌, inl, inr, ℕ, ◌+◌, Bool, List, [], ◌∷◌, ◌++◌, Ok, Err, IsTrue, refl, sym, ◌∙◌, ap, subst, length, arith, rules}, lemmas.Grind.{common_steps}}
-use Rattle.{std.specs.Prelude.{◌↔◌}, dgt_link.specs.{View.{IsQuietWorld, WorldView}, declared.acts.Outcome.{Outcome}}, dgt_lines.specs.declared.faults.RunFault.TheVariants.{ReadFailed, WriteFailed}}
-use Rattle.{dgt_lines.specs.declared.faults.RunFault.TheVariants.{TooManyTurns, BadLine}, dgt_script.specs.{Script.{AsksFor, IsBadAt, IsSingleValued, Vocabulary}, ScriptLines.{IsCut}}}
-use Rattle.dgt_text.{specs.{Closing.{closing_lines}, Ends.{OneBadLine, OneEnd}, Simulating.{Plays, Rules, Stops, all_lines, part, rules_of}}, proofs.BeginLemmas.{Longer, begins_nested}}
-use Rattle.dgt_text.proofs.PlayOnce.{HasOneOutcome, acts_once, cut_once, plays_once}
+use Rattle.std.{proofs.{Common.{◌≡◌, ◌⊎◌, inl, inr, ℕ, ◌+◌, Bool, List, [], ◌∷◌, ◌++◌, Ok, Err, IsTrue, refl, sym, ◌∙◌, ap, length, arith, rules}, lemmas.Grind.{common_steps}}, specs.Prelude.{◌↔◌}}
+use Rattle.{dgt_link.specs.{View.{IsQuietWorld, WorldView}, declared.acts.Outcome.{Outcome}}, dgt_lines.specs.declared.faults.RunFault.TheVariants.{WriteFailed, BadLine}}
+use Rattle.{dgt_script.specs.{Script.{AsksFor, IsBadAt, IsSingleValued, Vocabulary}, ScriptLines.{IsCut}}, dgt_text.specs.{Closing.{closing_lines}, Ends.{OneBadLine, OneEnd}, Simulating.{Plays}}}
+use Rattle.dgt_text.{specs.Simulating.{Rules, Stops, all_lines, part, rules_of}, proofs.{BeginLemmas.{Longer, begins_nested}, PlayOnce.{HasOneOutcome, acts_once, cut_once, plays_once}}}
 
 -- what a line does, and where it goes wrong, is clear
 pub record AreClear (rules : Rules) : Type 0 where
@@ -25,15 +24,12 @@ acts_clear vocabulary steps meaning one either place = record {
   place = place;
 }
 
-same_bool : (a b : Bool) → (IsTrue a → IsTrue b) → (IsTrue b → IsTrue a) → a ≡ b
-same_bool a b f g = search rules
-
 -- one text and one world have one text with its closing lines
 pub closed_once : (text other : List ℕ) (world last : WorldView) (quiet silent : Bool)
     → text ≡ other → world ≡ last → (IsTrue quiet ↔ IsQuietWorld world)
     → (IsTrue silent ↔ IsQuietWorld last)
     → text ++ closing_lines world quiet ≡ other ++ closing_lines last silent
-closed_once text other world last quiet silent e f p q = search (rules, same_bool)
+closed_once text other world last quiet silent e f p q = search rules
 
 module _ (rules : Rules) (clear : AreClear rules) where
   -- what is played of the same bytes
@@ -51,8 +47,7 @@ module _ (rules : Rules) (clear : AreClear rules) where
       → (text ≡ more) × (last ≡ other)
   whole_plays_once world last other bytes text more rest left lines others cut also p q =
       let same = cut_once bytes lines others rest left cut also in
-      plays_once rules clear.one world others text more last other
-      (subst (λ (l : List (List ℕ)). Plays rules world l text last) same.0 p) q
+      plays_once rules clear.one world others text more last other (rw same.0 at p) q
 
   -- ---- bad lines
 
@@ -65,8 +60,7 @@ module _ (rules : Rules) (clear : AreClear rules) where
       let same : bad ≡ worse = cc in (refl, same)
   first_bad (x ∷ ls) (k ∷ ks) more bad worse w v m l t u at also p b q c e =
       grind (arith, common_steps, first_bad ls ks more bad worse p.1 q.1 m l p.2 q.2)
-  first_bad ls ks more bad worse w v m l t u at also p b q c e =
-      grind (arith, common_steps)
+  first_bad ls ks more bad worse w v m l t u at also p b q c e = grind (arith, common_steps)
 
   abbrev Stopped : Bool → WorldView → WorldView → List ℕ → List ℕ → ℕ → ℕ → Type 0
   Stopped at_end world last bytes out number at =
@@ -91,7 +85,7 @@ module _ (rules : Rules) (clear : AreClear rules) where
   one_bad_line at_end world last other bytes out more number another at also p q =
       let same = one_bad at_end world last other bytes out more number another at also p q in (
         p.5 ∙ ap (λ (l : List (List ℕ)). 1 + length l) same.0 ∙ sym q.5,
-        clear.place q.1 at also (subst (λ (l : List ℕ). rules.is_bad l at) same.1 p.4) q.4,
+        clear.place q.1 at also (rw same.1 at p.4) q.4,
       )
 
   -- ---- all ends
@@ -100,12 +94,9 @@ module _ (rules : Rules) (clear : AreClear rules) where
   one_end (Ok x) at_end world last other bytes out more n p q =
       let played = cut_plays_once world last other bytes p.2 q.2 p.1 q.1 p.0 q.0 p.4 q.4 p.5 q.5 in
       (p.7 ∙ closed_once p.2 q.2 last other p.3 q.3 played.0 played.1 p.6 q.6 ∙ sym q.7, played.1)
-  one_end (Err ReadFailed) at_end world last other bytes out more n p q =
-      whole_plays_once world last other bytes out more p.1 q.1 p.0 q.0 p.2 q.2 p.3 q.3
-  one_end (Err TooManyTurns) at_end world last other bytes out more n p q =
-      whole_plays_once world last other bytes out more p.1 q.1 p.0 q.0 p.2 q.2 p.3 q.3
   one_end (Err (BadLine number at)) at_end world last other bytes out more n p q =
       let same = one_bad at_end world last other bytes out more number number at at p q in
-      plays_once rules clear.one world q.0 out more last other
-      (subst (λ (l : List (List ℕ)). Plays rules world l out last) same.0 p.3) q.3
+      plays_once rules clear.one world q.0 out more last other (rw same.0 at p.3) q.3
   one_end (Err WriteFailed) at_end world last other bytes out more n p q = absurd (n refl)
+  one_end (Err fault) at_end world last other bytes out more n p q =
+      whole_plays_once world last other bytes out more p.1 q.1 p.0 q.0 p.2 q.2 p.3 q.3

@@ -1,12 +1,11 @@
 -- Lines that are played in a row.
-use Rattle.std.proofs.Common.{◌≡◌, ◌≢◌, ℕ, ◌+◌, ◌-◌, ◌<◌, List, [], ◌∷◌, ◌++◌, ◌⊎◌, inl, inr, Bool, false, Result, Ok, Err, IsErrAnd, IsTrue, refl, sym, ◌∙◌, ap, subst, length, arith, append_assoc}
-use Rattle.std.proofs.{Common.{append-nil, length-append, suc, take, drop, slice_index, add-one, rules}, KnownBytes.{Appends-trans, Appends-nil}, Math.Seq.{take-add, take-suc}}
-use Rattle.std.{proofs.lemmas.{Grind.{flat_map-append, common_steps}, List.{places, take_rest, take-append-drop, Elements.{All-append}}}, specs.Prelude.{◌↔◌, All, MatchResult, flat_map}}
-use Rattle.{std.specs.Io.KnownBytes.{Appends}, dgt_link.specs.{View.{IsQuietWorld, WorldView}, declared.acts.Outcome.{Outcome}}, dgt_lines.specs.{Monitoring.{IsPrefix}, Turns.{change}}}
+use Rattle.std.proofs.Common.{◌≡◌, ◌≢◌, ℕ, ◌+◌, ◌-◌, ◌<◌, List, [], ◌∷◌, ◌++◌, ◌⊎◌, inl, inr, Bool, Result, Ok, Err, IsErrAnd, IsTrue, refl, sym, ◌∙◌, ap, length, arith, append_assoc, append-nil}
+use Rattle.std.proofs.{Common.{length-append, take, drop, slice_index, add-one, rules}, KnownBytes.{Appends-trans, Appends-nil}, Math.Seq.{take-add, take-suc}, lemmas.Grind.{flat_map-append}}
+use Rattle.std.{proofs.lemmas.{Grind.{common_steps}, List.{places, take_rest, take-append-drop, Elements.{All-append}}}, specs.{Prelude.{◌↔◌, All, MatchResult, flat_map}, Io.KnownBytes.{Appends}}}
+use Rattle.{dgt_link.specs.{View.{IsQuietWorld, WorldView}, declared.acts.Outcome.{Outcome}}, dgt_lines.specs.{Monitoring.{IsPrefix}, declared.faults.RunFault.TheVariants.{BadLine}}}
+use Rattle.{dgt_script.specs.{Outcomes.{outcome_line}, ScriptLines.{HasNoFeed, IsCut, KeepsLine, ended}, declared.script_lines.LineBuffer.{LineBuffer}}, dgt_text.specs.Closing.{closing_lines}}
+use Rattle.dgt_text.specs.Simulating.{BeginsWith, IsSimulatedFrom, Plays, Part, PlaysOn, PlaysTorn, Rules, Stops, Took, all_lines, part}
 use Rattle.dgt_lines.specs.{Writing.{Writes, Stopped}, declared.{faults.RunFault.{RunFault}, streams.Sink.{Ghosts as Sink}, faults.RunFault.TheVariants.{ReadFailed, WriteFailed, TooManyTurns}}}
-use Rattle.{dgt_lines.specs.declared.faults.RunFault.TheVariants.{BadLine}, dgt_script.specs.{Outcomes.{outcome_line}, ScriptLines.{HasNoFeed, IsCut, KeepsLine, ended}}}
-use Rattle.{dgt_script.specs.declared.script_lines.LineBuffer.{LineBuffer}, dgt_text.specs.{Closing.{closing_lines}, Simulating.{BeginsWith, IsSimulatedFrom, NoFlush, Plays, Part, PlaysOn}}}
-use Rattle.dgt_text.specs.Simulating.{PlaysTorn, Rules, Stops, Took, all_lines, part}
 
 -- ---- lines
 
@@ -19,9 +18,6 @@ no_byte k d h = absurd (omega arith)
 pub all_one : (line : List ℕ) → HasNoFeed line → All HasNoFeed (line ∷ [])
 all_one line h = search rules
 
-flat_one : (line : List ℕ) → flat_map ended (line ∷ []) ≡ ended line
-flat_one line = append-nil (ended line)
-
 -- lines, and then more lines
 whole_after : (bytes tail rest : List ℕ) (lines more : List (List ℕ))
     → bytes ≡ flat_map ended lines ++ tail → tail ≡ flat_map ended more ++ rest
@@ -31,11 +27,8 @@ whole_after bytes tail rest lines more e f = search (rules, append_assoc, flat_m
 pub cut_after : (bytes tail rest : List ℕ) (lines more : List (List ℕ))
     → bytes ≡ flat_map ended lines ++ tail → All HasNoFeed lines → IsCut tail more rest
     → IsCut bytes (lines ++ more) rest
-cut_after bytes tail rest lines more e h c = record {
-  whole = whole_after bytes tail rest lines more e c.whole;
-  each = All-append HasNoFeed lines more h c.each;
-  last = c.last;
-}
+cut_after bytes tail rest lines more e h c =
+    search (rules, whole_after bytes tail rest lines more, All-append HasNoFeed lines more)
 
 pub all_lines-append : (lines more : List (List ℕ)) (rest : List ℕ)
     → all_lines (lines ++ more) rest ≡ lines ++ all_lines more rest
@@ -49,7 +42,7 @@ begins_none at_end bytes = inl (bytes, refl, all_none)
 pub begins_ended : (at_end : Bool) (line rest bytes : List ℕ) → HasNoFeed line
     → bytes ≡ (line ++ 10 ∷ []) ++ rest → BeginsWith at_end bytes (line ∷ [])
 begins_ended at_end line rest bytes h e =
-    inl (rest, e ∙ ap (λ l. l ++ rest) (sym (flat_one line)), all_one line h)
+    inl (rest, e ∙ ap (λ l. l ++ rest) (sym (append-nil (ended line))), all_one line h)
 
 -- a last line
 pub begins_last : (at_end : Bool) (line : List ℕ) → IsTrue at_end → HasNoFeed line → line ≢ []
@@ -80,25 +73,12 @@ pub stopped_none : {S : Type 0} (W : Sink S) (a b : S) → Stopped W a b []
     → Appends (W.written a) (W.written b) []
 stopped_none W a b p = search (rules, prefix_none)
 
--- a call that flushes nothing, whatever it answers
-pub no_flush_at : {S A : Type 0} (W : Sink S) (a b : S) (r : Result A RunFault)
-    → (W.flushed a ≡ false → W.flushed b ≡ false) → NoFlush W (change a b) r
-no_flush_at W a b r p = search rules
-
--- the exit of a `?`, before which nothing was flushed
-pub no_flush_exit : {S A : Type 0} (W : Sink S) (a b c : S) (r : Result A RunFault) (e : RunFault)
-    → IsErrAnd r (λ y. y ≡ e) → (W.flushed a ≡ false → W.flushed b ≡ false)
-    → (e ≡ WriteFailed → W.flushed b ≡ false → W.flushed c ≡ false) → NoFlush W (change a c) r
-no_flush_exit W a b c r e k p q = search rules
-
 module _ (rules : Rules) where
   -- ---- playing
 
   pub plays_append : (w m l : WorldView) (ls ks : List (List ℕ)) (t u : List ℕ)
       → Plays rules w ls t m → Plays rules m ks u l → Plays rules w (ls ++ ks) (t ++ u) l
-  plays_append w m l [] ks t u p q =
-      subst (λ x. Plays rules w ks (x ++ u) l) (sym p.0)
-      (subst (λ x. Plays rules x ks u l) (sym p.1) q)
+  plays_append w m l [] ks t u p q = rw (p.0, p.1) q
   plays_append w m l (line ∷ ls) ks t u p q =
       grind (arith, common_steps, append_assoc, plays_append p.1 m l ls ks p.2 u p.5 q)
 
@@ -155,8 +135,6 @@ module _ (rules : Rules) where
       → Plays rules w ls t m → P (part number' tail m l) out → P (part number bytes w l) (t ++ out)
 
   pub stops_after : (at_end : Bool) (e : RunFault) → HoldsWithLines (λ p. Stops rules at_end p e)
-  stops_after at_end ReadFailed w m l number number' bytes tail t out ls e h n p s = absurd s
-  stops_after at_end TooManyTurns w m l number number' bytes tail t out ls e h n p s = absurd s
   stops_after at_end WriteFailed w m l number number' bytes tail t out ls e h n p s = (
     ls ++ s.0,
     begins_after at_end bytes tail ls s.0 e h s.1,
@@ -165,12 +143,13 @@ module _ (rules : Rules) where
   stops_after at_end (BadLine bad at) w m l number number' bytes tail t out ls e h n p s = (
     ls ++ s.0,
     s.1,
-    subst (λ x. BeginsWith at_end bytes x) (sym (append_assoc ls s.0 (s.1 ∷ [])))
+    rw (append_assoc ls s.0 (s.1 ∷ []))
         (begins_after at_end bytes tail ls (s.0 ++ s.1 ∷ []) e h s.2),
     plays_append w m l ls s.0 t out p s.3,
     s.4,
     (let k = length-append ls s.0 in let f = s.5 in omega arith),
   )
+  stops_after at_end e w m l number number' bytes tail t out ls whole h n p s = absurd s
 
   all_after : (w m l : WorldView) (bytes tail rest t u : List ℕ) (ls ks : List (List ℕ))
       → Plays rules w ls t m → Plays rules m (all_lines ks rest) u l
@@ -189,27 +168,14 @@ module _ (rules : Rules) where
     s.6,
     ap (λ x. t ++ x) s.7 ∙ sym (append_assoc t s.2 (closing_lines l s.3)),
   )
-  simulated_after at_end (Err ReadFailed) w m l number number' bytes tail t out ls e h n p s = (
-    ls ++ s.0,
-    s.1,
-    cut_after bytes tail s.1 ls s.0 e h s.2,
-    plays_append w m l ls s.0 t out p s.3,
-  )
-  simulated_after at_end (Err TooManyTurns) w m l number number' bytes tail t out ls e h n p s = (
-    ls ++ s.0,
-    s.1,
-    cut_after bytes tail s.1 ls s.0 e h s.2,
-    plays_append w m l ls s.0 t out p s.3,
-  )
   simulated_after at_end (Err (BadLine bad at)) w m l number number' bytes tail t out ls e h n p s =
-      search (rules, stops_after)
+      stops_after at_end (BadLine bad at) w m l number number' bytes tail t out ls e h n p s
   simulated_after at_end (Err WriteFailed) w m l number number' bytes tail t out ls e h n p
       (inl s) =
       inl
       (stops_after at_end WriteFailed w m l number number' bytes tail t out ls e h n p s)
   simulated_after at_end (Err WriteFailed) w m l number number' bytes tail t out ls e h n p
-      (inr s) =
-      inr (
+      (inr s) = inr (
         ls ++ s.0,
         s.1,
         t ++ s.2,
@@ -222,6 +188,12 @@ module _ (rules : Rules) where
         ap (λ x. t ++ x) s.9 ∙ sym (append_assoc t s.2 s.4),
         s.10,
       )
+  simulated_after at_end (Err fault) w m l number number' bytes tail t out ls e h n p s = (
+    ls ++ s.0,
+    s.1,
+    cut_after bytes tail s.1 ls s.0 e h s.2,
+    plays_append w m l ls s.0 t out p s.3,
+  )
 
   stops_simulated : (at_end : Bool) (A : Type 0) (e : RunFault) (w l : WorldView) (number : ℕ)
       (bytes out : List ℕ) → Stops rules at_end (part number bytes w l) e out
@@ -253,16 +225,9 @@ module _ (rules : Rules) where
     line_put at_end (Ok x) w l a b number line bytes o p h g =
         (outcome_line o, p.appends, plays_one w l line o h)
     line_put at_end (Err e) w l a b number line bytes o p h g =
-        subst (λ f. Took W a b (Stops rules at_end (part number bytes w l) f)) (sym p.0) (
-          p.1.prefix,
-          p.1.appends,
-          (
-            line ∷ [],
-            g,
-            torn_one w l line p.1.prefix (outcome_line o) (plays_one w l line o h)
-                (p.1.rest, p.1.whole),
-          ),
-        )
+        let torn = torn_one w l line p.1.prefix (outcome_line o) (plays_one w l line o h)
+        (p.1.rest, p.1.whole) in
+        rw p.0 (p.1.prefix, p.1.appends, (line ∷ [], g, torn))
 
     -- a line that is not an act
     pub line_refused : {A : Type 0} (at_end : Bool) (r : Result A RunFault) (w : WorldView)
@@ -270,10 +235,9 @@ module _ (rules : Rules) where
         → (r ≡ Err (BadLine number at)) ⊎ (r ≡ Err WriteFailed)
         → Appends (W.written a) (W.written b) [] → rules.is_bad line at
         → BeginsWith at_end bytes (line ∷ []) → PlaysLine W at_end w w a b r number line bytes
-    line_refused {A = A} at_end r w a b number at line bytes (inl e) p h g =
-        subst (λ x. PlaysLine {A = A} W at_end w w a b x number line bytes) (sym e)
-        ([], p, ([], line, g, (refl, refl), h, omega arith))
-    line_refused {A = A} at_end r w a b number at line bytes (inr e) p h g =
+    line_refused at_end r w a b number at line bytes (inl e) p h g =
+        rw e ([], p, ([], line, g, (refl, refl), h, omega arith))
+    line_refused at_end r w a b number at line bytes (inr e) p h g =
         grind (arith, common_steps, begins_none, torn_none)
 
     -- ---- chunks
@@ -300,7 +264,7 @@ module _ (rules : Rules) where
       lines = whole ∷ [];
       rest = [];
       text = p.0;
-      cut = search (rules, flat_one, append-nil, all_one, no_byte);
+      cut = search (rules, append-nil, all_one, no_byte);
       kept = k;
       counted = omega arith;
       plays = p.2;
@@ -343,8 +307,7 @@ module _ (rules : Rules) where
         → PlaysOn rules W (part n (bytes ++ (p ++ 10 ∷ [])) w l) a c line' (n' + 1)
     on_line w m l a b c line line' n n' bytes p q h k t =
         on_more w m l a b c line line' n n' (n' + 1) bytes (p ++ 10 ∷ []) q
-        (subst (λ x. PlaysOn rules W (part n' x m l) b c line' (n' + 1))
-        (append_assoc q.rest p (10 ∷ []))
+        (rw (append_assoc q.rest p (10 ∷ [])) at
         (on_one m l b c line' n' (q.rest ++ p) k (All-append (λ x. x ≢ 10) q.rest p q.cut.last h)
         t))
 
@@ -397,14 +360,11 @@ module _ (rules : Rules) where
       Appends-trans _ _ _ t.0 (closing_lines l quiet) t.1 p.appends,
       ([], rest, t.0, quiet, record { whole = refl; each = all_none; last = h }, t.2, k, refl),
     )
-    end_closing {A = A} at_end (Err f) w l a b c n rest quiet e h t k p =
-        subst (λ g. let r : Result A RunFault = Err g in Took W a c
-        (IsSimulatedFrom rules at_end (part n rest w l) r))
-        (sym p.0) (
-          t.0 ++ p.1.prefix,
-          Appends-trans _ _ _ t.0 p.1.prefix t.1 p.1.appends,
-          inr (grind (arith, common_steps, all_none)),
-        )
+    end_closing at_end (Err f) w l a b c n rest quiet e h t k p = rw p.0 (
+      t.0 ++ p.1.prefix,
+      Appends-trans _ _ _ t.0 p.1.prefix t.1 p.1.appends,
+      inr (grind (arith, common_steps, all_none)),
+    )
 
 -- ---- the bytes of a chunk
 

@@ -1,7 +1,7 @@
 -- A script divides into lines in one way, and is played in one way.
-use Rattle.{std.{proofs.Common.{◌≡◌, ◌≢◌, ℕ, List, [], ◌∷◌, ◌++◌, refl, sym, ◌∙◌, ap, subst, arith, append_assoc, suc, zero, rules}, specs.Prelude.{All, flat_map}}, dgt_link.specs.View.{WorldView}}
-use Rattle.{dgt_link.specs.declared.acts.Outcome.{Outcome}, dgt_script.specs.{Outcomes.{outcome_line}, Script.{AsksFor, IsSingleValued, Vocabulary}, ScriptLines.{HasNoFeed, IsCut, ended}}}
-use Rattle.dgt_text.specs.Simulating.{Plays, Rules, rules_of}
+use Rattle.{std.{proofs.Common.{◌≡◌, ◌≢◌, ℕ, List, [], ◌∷◌, ◌++◌, refl, sym, ◌∙◌, ap, arith, append_assoc, suc, zero, rules}, specs.Prelude.{All, flat_map}}, dgt_link.specs.View.{WorldView}}
+use Rattle.{dgt_link.specs.declared.acts.Outcome.{Outcome}, dgt_script.specs.{Script.{AsksFor, IsSingleValued, Vocabulary}, ScriptLines.{HasNoFeed, IsCut, ended}}, dgt_text.specs.Simulating.{Plays}}
+use Rattle.dgt_text.specs.Simulating.{Rules, rules_of}
 
 pub rest_of : {A : Type 0} (P : A → Type 0) (x : A) (xs : List A) → All P (x ∷ xs) → All P xs
 rest_of P x xs h k d b = h (suc k) d (omega arith)
@@ -12,8 +12,7 @@ first_of_all P x xs h = h zero x (omega arith)
 -- bytes with no line feed don't hold one
 pub no_feed_in : (line bytes after : List ℕ) → HasNoFeed bytes → bytes ≡ line ++ 10 ∷ after → ⊥
 no_feed_in [] [] after h e = cc
-no_feed_in [] (b ∷ bytes) after h e = let same : b ≡ 10 = cc in
-    first_of_all (λ x. x ≢ 10) b bytes h same
+no_feed_in [] (b ∷ bytes) after h e = first_of_all (λ x. x ≢ 10) b bytes h cc
 no_feed_in (c ∷ line) [] after h e = cc
 no_feed_in (c ∷ line) (b ∷ bytes) after h e = let more : bytes ≡ line ++ 10 ∷ after = cc in
     no_feed_in line bytes after (rest_of (λ x. x ≢ 10) b bytes h) more
@@ -22,15 +21,12 @@ no_feed_in (c ∷ line) (b ∷ bytes) after h e = let more : bytes ≡ line ++ 1
 pub feed_once : (a b x y : List ℕ) → HasNoFeed a → HasNoFeed b → a ++ 10 ∷ x ≡ b ++ 10 ∷ y
     → (a ≡ b) × (x ≡ y)
 feed_once [] [] x y h k e = let more : x ≡ y = cc in (refl, more)
-feed_once [] (c ∷ b) x y h k e = let same : c ≡ 10 = cc in
-    absurd (first_of_all (λ z. z ≢ 10) c b k same)
-feed_once (c ∷ a) [] x y h k e = let same : c ≡ 10 = cc in
-    absurd (first_of_all (λ z. z ≢ 10) c a h same)
+feed_once [] (c ∷ b) x y h k e = absurd (first_of_all (λ z. z ≢ 10) c b k cc)
+feed_once (c ∷ a) [] x y h k e = absurd (first_of_all (λ z. z ≢ 10) c a h cc)
 feed_once (c ∷ a) (d ∷ b) x y h k e =
-    let same : c ≡ d = cc in
     let tail : a ++ 10 ∷ x ≡ b ++ 10 ∷ y = cc in
     let more = feed_once a b x y (rest_of (λ z. z ≢ 10) c a h) (rest_of (λ z. z ≢ 10) d b k) tail in
-    (ap (λ z. z ∷ a) same ∙ ap (λ z. d ∷ z) more.0, more.1)
+    search rules
 
 pub flat_first : (line : List ℕ) (lines : List (List ℕ)) (rest : List ℕ)
     → flat_map ended (line ∷ lines) ++ rest ≡ line ++ 10 ∷ (flat_map ended lines ++ rest)
@@ -70,12 +66,7 @@ module _ (rules : Rules) (one : HasOneOutcome rules) where
   plays_once w [] t u l k p q = (p.0 ∙ sym q.0, sym p.1 ∙ q.1)
   plays_once w (line ∷ ls) t u l k p q =
       let step = one line w p.1 q.1 p.0 q.0 p.3 q.3 in
-      let more =
-      plays_once q.1 ls p.2 q.2 l k (subst (λ x. Plays rules x ls p.2 l) step.1 p.5) q.5 in (
-        p.4 ∙ ap (λ o. outcome_line o ++ p.2) step.0 ∙ ap (λ r. outcome_line q.0 ++ r) more.0
-            ∙ sym q.4,
-        more.1,
-      )
+      let more = plays_once q.1 ls p.2 q.2 l k (rw step.1 at p.5) q.5 in (cc, more.1)
 
 -- a line asks for one act, which has one outcome
 pub acts_once : {V A : Type 0} (vocabulary : Vocabulary V A)

@@ -1,40 +1,24 @@
 -- How a run of `simulate` ends.
-use Rattle.std.proofs.{Common.{◌≡◌, ℕ, List, [], ◌++◌, Bool, true, Some, Result, Ok, Err, IsErrAnd, IsTrue, OnOk, sym, ap, subst, append-nil, arith, rules}, KnownBytes.{Appends-trans, Consumes-nil}}
-use Rattle.{std.{proofs.{KnownBytes.{Consumes-trans}, lemmas.Grind.{common_steps}}, specs.{Prelude.{IfErr}, Io.KnownBytes.{Appends, Consumes}}}, dgt_link.specs.View.{IsQuietWorld, WorldView}}
-use Rattle.dgt_lines.specs.{Turns.{HasTurns, Ran, change, InTurns}, Writing.{Stopped}, declared.{faults.RunFault.{RunFault}, streams.{Sink.{Ghosts as Sink}, Source.{Ghosts as Source}}}}
+use Rattle.std.proofs.{Common.{◌≡◌, ℕ, List, [], ◌++◌, Bool, Some, Result, Ok, Err, IsErrAnd, OnOk, append-nil, arith, rules}, KnownBytes.{Appends-trans, Consumes-nil, Consumes-trans}}
+use Rattle.{std.{proofs.lemmas.Grind.{common_steps}, specs.{Prelude.{IfErr}, Io.KnownBytes.{Appends, Consumes}}}, dgt_link.specs.View.{IsQuietWorld, WorldView}}
 use Rattle.{dgt_lines.specs.declared.faults.RunFault.TheVariants.{WriteFailed}, dgt_script.specs.declared.script_lines.LineBuffer.{LineBuffer}, dgt_text.specs.Closing.{ClosingLinesAgree}}
 use Rattle.dgt_text.{specs.Simulating.{EndsAlike, IsOfLine, IsSimulated, IsSimulatedFrom, PlaysOn, Stops, Rules, Took, part}, proofs.PlayLemmas.{begins_none, end_exit, on_rest, simulated_after}}
 use Rattle.dgt_text.proofs.PlayLemmas.{stopped_none, torn_none}
+use Rattle.dgt_lines.specs.{Turns.{HasTurns, Ran, change, InTurns}, Writing.{Stopped}, declared.{faults.RunFault.{RunFault}, streams.{Sink.{Ghosts as Sink}, Source.{Ghosts as Source}}}}
 
 -- a fault of a line is none of turns
 line_turns : {A : Type 0} (limit : ℕ) (r : Result A RunFault) (bytes : List ℕ) → IfErr r IsOfLine
     → HasTurns limit r bytes
 line_turns limit r bytes f = search rules
 
--- what stops a run at a line is a fault of a line
-stop_line : {A : Type 0} (rules : Rules) (at_end : Bool) (r : Result A RunFault) (e : RunFault)
-    (w l : WorldView) (n : ℕ) (bytes out : List ℕ) → IsErrAnd r (λ y. y ≡ e)
-    → Stops rules at_end (part n bytes w l) e out → IfErr r IsOfLine
-stop_line rules at_end r e w l n bytes out k s = grind (arith, common_steps)
-
-is_true : {b : Bool} → IsTrue b → b ≡ true
-is_true h = cc
-
 -- the lines that were played, and a flush
 pub plays_flushed : {T : Type 0} (rules : Rules) (W : Sink T) (c d d' : T) (w m : WorldView)
     (line : LineBuffer) (n : ℕ) (bytes : List ℕ) → PlaysOn rules W (part 1 bytes w m) c d line n
     → Appends (W.written d) (W.written d') [] → PlaysOn rules W (part 1 bytes w m) c d' line n
-plays_flushed rules W c d d' w m line n bytes q p = record {
-  lines = q.lines;
-  rest = q.rest;
-  text = q.text;
-  cut = q.cut;
-  kept = q.kept;
-  counted = q.counted;
-  plays = q.plays;
-  wrote = subst (λ l. Appends (W.written c) (W.written d') l) (append-nil q.text)
-      (Appends-trans _ _ _ q.text [] q.wrote p);
-}
+plays_flushed rules W c d d' w m line n bytes q p =
+    let wrote : Appends (W.written c) (W.written d') q.text =
+    rw (append-nil q.text) at (Appends-trans _ _ _ q.text [] q.wrote p) in
+    search rules
 
 module _ (rules : Rules) {S T : Type 0} (R : Source S) (W : Sink T) where
   -- how the run ends
@@ -62,8 +46,9 @@ module _ (rules : Rules) {S T : Type 0} (R : Source S) (W : Sink T) where
       → IsErrAnd r (λ y. y ≡ e) → Took W d d' (Stops rules at_end (part n (q.rest ++ chunk) m l) e)
       → Ran R W (change a b') (change c d') (InTurns limit r (IsSimulated rules at_end r w l))
   scripted_stops at_end limit r e a b b' c d d' w m l line n bytes chunk g q p k t =
+      let stops = t.2 in
       scripted_ends at_end limit r a b b' c d d' w m l line n bytes chunk g q p
-      (stop_line rules at_end r e m l n (q.rest ++ chunk) t.0 k t.2)
+      (grind (arith, common_steps))
       (end_exit rules W at_end r e m l d d' n (q.rest ++ chunk) k t)
 
   -- the exit of a `?` on a flush
@@ -76,7 +61,7 @@ module _ (rules : Rules) {S T : Type 0} (R : Source S) (W : Sink T) where
   scripted_unflushed at_end limit r e a b c d d' w m line n bytes g q k s =
       scripted_stops at_end limit r e a b b c d d' w m m line n bytes [] g q
       (Consumes-nil (R.left b)) k
-      (subst (λ f. Took W d d' (Stops rules at_end (part n (q.rest ++ []) m m) f)) (sym s.0)
+      (rw s.0
       ([], stopped_none W d d' s.1, ([], begins_none at_end (q.rest ++ []), torn_none rules m)))
 
   -- the closing lines of a quiet world, if the host's picture is the board's position
@@ -86,15 +71,9 @@ module _ (rules : Rules) {S T : Type 0} (R : Source S) (W : Sink T) where
       → (IsQuietWorld l → l.host.picture ≡ Some l.board.state.squares → EndsAlike l out) → P out)
       → Ran R W (change a b) (change c d) (InTurns limit r (IsSimulated rules at_end r w l))
       → Ran R W (change a b) (change c d) (InTurns limit r (λ _ out. OnOk r (P out)))
-  simulated_pictures at_end limit (Ok x) a b c d w l P agree ends p = let s = p.4.1 in (
-    p.0,
-    p.1,
-    p.2,
-    p.3,
-    (
-      p.4.0,
-      ends p.1 (grind (arith, common_steps, is_true)),
-    ),
-  )
+  simulated_pictures at_end limit (Ok x) a b c d w l P agree ends p =
+      let s = p.4.1 in
+      let shown : P p.1 = ends p.1 (grind (arith, common_steps)) in
+      (p.0, p.1, p.2, p.3, (p.4.0, shown))
   simulated_pictures at_end limit (Err e) a b c d w l P agree ends p =
       (p.0, p.1, p.2, p.3, (p.4.0, tt))

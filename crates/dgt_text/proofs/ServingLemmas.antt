@@ -1,13 +1,13 @@
 -- The text of a board's conversation in a sink.
-use Rattle.std.proofs.Common.{◌≡◌, ℕ, ◌+◌, ◌-◌, ◌≤◌, List, [], ◌∷◌, ◌++◌, Option, Some, None, Result, Ok, Err, IsErrAnd, refl, sym, ◌∙◌, ap, subst, append_assoc, append-nil, length, take, drop, arith}
-use Rattle.std.proofs.{Common.{true, false, is_some, IfSome, IfNone, option_map, rules}, KnownBytes.{Appends-trans, Consumes-trans}, Math.Seq.{take-add, take-append_seam}, lemmas.Grind.{common_steps}}
+use Rattle.std.proofs.Common.{◌≡◌, ℕ, ◌+◌, ◌-◌, ◌≤◌, List, [], ◌∷◌, ◌++◌, Option, Some, None, Result, Ok, Err, IsErrAnd, refl, ◌∙◌, ap, append_assoc, append-nil, length, take, drop, arith, true}
+use Rattle.std.proofs.{Common.{false, is_some, IfSome, IfNone, option_map, rules}, KnownBytes.{Appends-trans, Consumes-trans}, Math.Seq.{take-add, take-append_seam}, lemmas.Grind.{common_steps}}
 use Rattle.{std.{proofs.lemmas.List.{take-append-drop, take_all, take_rest}, specs.Io.KnownBytes.{Consumes}}, dgt_message.specs.{Content.{Content}, Encoding.{encoding}}}
 use Rattle.{dgt_command.specs.{Content.{EventContent}, Laws.{DivisionsAppend}, Words.{IsWord, IsPartial}}, dgt_board.specs.{Sending.{after_sending, next_message}, View.{Polls, BoardView}}}
 use Rattle.{dgt_board.specs.{View.{after_bytes}, declared.sending.Polled.{Polled}}, dgt_lines.specs.{Turns.{Ran, change, InTurns}, Writing.{Wrote, Stopped, Writes, InARow}}}
-use Rattle.dgt_lines.specs.declared.{faults.RunFault.{RunFault}, streams.{Sink.{Ghosts as Sink}, Source.{Ghosts as Source}}, faults.RunFault.TheVariants.{WriteFailed}}
 use Rattle.{dgt_lines.proofs.TurnLemmas.{BetweenReads}, dgt_text.specs.{Conversation.{Exchange, sent, heard, Converses, events_heard, bytes_sent, Hears}, Serving.{IsAlmostSent, IsServed, Served}}}
 use Rattle.dgt_text.{specs.{Serving.{Halted, Serves}, Simulating.{part}}, proofs.ConversationLemmas.{events_heard-append, bytes_sent-append, converses-sent, hears_then, hears_nothing, hears_word}}
 use Rattle.dgt_text.proofs.ConversationLemmas.{hears_part, prefix_then, prefix_longer, prefix_whole}
+use Rattle.dgt_lines.specs.declared.{faults.RunFault.{RunFault}, streams.{Sink.{Ghosts as Sink}, Source.{Ghosts as Source}}, faults.RunFault.TheVariants.{WriteFailed}}
 
 -- ---- chunks
 
@@ -37,15 +37,7 @@ has_sent before after count old out = go (next_message before.state) refl
   where
     go : (next : Option Content) → next_message before.state ≡ next
         → Polls (Polled.Wrote count) next before after old out → HasSent before after count out
-    go None is p = absurd p
-    go (Some message) is p = record {
-      message = message;
-      next = is;
-      state = p.4;
-      bytes = ap (λ (l : List ℕ). take count l) p.2
-          ∙ ap (λ (n : ℕ). take n (encoding message ++ drop count old))
-          p.0 ∙ take-append_seam (encoding message) (drop count old);
-    }
+    go next is p = search (rules, take-append_seam)
 
 -- bytes that ended a word
 pub hears_some : {E : Type 0} → IsPartial []
@@ -77,11 +69,7 @@ almost_sent before last prefix rest one is = record {
   whole = refl;
   one = one;
   sure = (prefix, refl);
-  prefix = (
-    rest,
-    bytes_sent-append before last ∙ ap (λ (l : List ℕ). bytes_sent before ++ l) is ∙
-        sym (append_assoc (bytes_sent before) prefix rest),
-  );
+  prefix = (rest, search (rules, append_assoc, bytes_sent-append));
 }
 
 almost_sent_then : (steps more : List Exchange) (out : List ℕ) → IsAlmostSent more out
@@ -89,7 +77,7 @@ almost_sent_then : (steps more : List Exchange) (out : List ℕ) → IsAlmostSen
 almost_sent_then steps more out p = record {
   before = steps ++ p.before;
   last = p.last;
-  whole = ap (λ (l : List Exchange). steps ++ l) p.whole ∙ sym (append_assoc steps p.before p.last);
+  whole = search (rules, append_assoc);
   one = p.one;
   sure = search (rules, append_assoc, bytes_sent-append);
   prefix = search (rules, bytes_sent-append, append_assoc);
@@ -111,13 +99,9 @@ module _ {S : Type 0} (W : Sink S) where
   sent_more row old mid new a b c message p next is q = record {
     steps = p.steps ++ sent message ∷ [];
     conversation = search (rules, converses-sent);
-    none_heard =
-        events_heard-append p.steps (sent message ∷ [])
-        ∙ ap (λ (l : List EventContent). l ++ []) p.none_heard;
+    none_heard = search (rules, events_heard-append);
     partial = ap (λ (v : BoardView). v.partial) is ∙ p.partial;
-    wrote = subst (λ (l : List ℕ). Wrote W a c l)
-        (search (rules, append-nil, bytes_sent-append))
-        (row.writes a b c (bytes_sent p.steps) (encoding message) (Ok tt) p.wrote q);
+    wrote = grind (arith, common_steps, bytes_sent-append, append-nil);
   }
 
   -- the sink refused a message
@@ -130,9 +114,7 @@ module _ {S : Type 0} (W : Sink S) where
       let conversation =
       converses-sent old.state mid.state new.state p.steps message p.conversation next
       (ap (λ (v : BoardView). v.state) is) in
-      let none : events_heard steps ≡ [] =
-      events_heard-append p.steps (sent message ∷ [])
-      ∙ ap (λ (l : List EventContent). l ++ []) p.none_heard in
+      let none : events_heard steps ≡ [] = search (rules, events_heard-append) in
       let same : new.partial ≡ mid.partial = ap (λ (v : BoardView). v.partial) is in
       record {
         out = bytes_sent p.steps ++ q.prefix;
@@ -151,17 +133,13 @@ module _ {S : Type 0} (W : Sink S) where
       → Served W between new b c [] → Served W old new a c (s ++ t)
   served_then row append old mid between new a b c s t steps p h none q =
       let all = p.steps ++ (steps ++ q.steps) in
-      let later : Hears mid (t ++ []) (steps ++ q.steps) new =
-      hears_then append mid between new t [] steps q.steps h q.answers.hears in
+      let later : Hears mid t (steps ++ q.steps) new = rw (append-nil t) at
+      (hears_then append mid between new t [] steps q.steps h q.answers.hears) in
       let sent : bytes_sent all ≡ bytes_sent p.steps ++ bytes_sent q.steps
       = search (rules, bytes_sent-append) in
       record {
         steps = all;
-        answers = record {
-          hears = hears_then append old mid new s t p.steps (steps ++ q.steps) p.answers.hears
-              (rw (append-nil t) at later);
-          settled = q.answers.settled;
-        };
+        answers = search (rules, hears_then);
         wrote = grind (arith, common_steps);
       }
 
@@ -213,12 +191,10 @@ module _ {S : Type 0} (W : Sink S) where
   served_part append old mid new a b s t p partial is = record {
     steps = p.steps ++ [];
     answers = record {
-      hears = hears_then append old mid new s t p.steps [] p.answers.hears
-          (hears_part mid new t partial is);
-      settled = ap (λ (v : BoardView). next_message v.state) is ∙ p.answers.settled;
+      hears = search (rules, hears_then, hears_part);
+      settled = rw is p.answers.settled;
     };
-    wrote = subst (λ (l : List Exchange). Wrote W a b (bytes_sent l)) (sym (append-nil p.steps))
-        p.wrote;
+    wrote = rw (append-nil p.steps) p.wrote;
   }
 
   -- a flush at the end

@@ -1,18 +1,16 @@
 -- After a refused write a prefix of the text of a script was written.
-use Rattle.{std.proofs.Common.{◌≡◌, ℕ, inl, inr, List, [], ◌∷◌, ◌++◌, refl, sym, ◌∙◌, ap, subst, length, arith, append_assoc, true≢false}, dgt_link.specs.View.{WorldView}}
+use Rattle.{std.proofs.Common.{rules, ◌≡◌, ℕ, inl, inr, List, [], ◌∷◌, ◌++◌, refl, sym, ◌∙◌, ap, length, arith, append_assoc, true≢false}, dgt_link.specs.View.{WorldView}}
 use Rattle.{dgt_link.specs.declared.acts.Outcome.{Outcome}, dgt_lines.specs.Monitoring.{IsPrefix}, dgt_script.specs.Outcomes.{outcome_line}, dgt_text.specs.{Closing.{closing_lines}, Ends.{OneIsTorn}}}
 use Rattle.dgt_text.{specs.{Ends.{OnlyWholeLines, TornTextsBegin}, Simulating.{Plays, PlaysTorn, Rules}}, proofs.{BeginLemmas.{begins_all, begins_whole}, EndOnce.{AreClear, closed_once}}}
 use Rattle.dgt_text.proofs.{EndOnce.{cut_plays_once}, PlayLemmas.{plays_append}, PlayOnce.{plays_once}}
 
 -- a prefix of a list is one of a longer list
 prefix_longer : (out text more : List ℕ) → IsPrefix out text → IsPrefix out (text ++ more)
-prefix_longer out text more p =
-    (p.0 ++ more, ap (λ (l : List ℕ). l ++ more) p.1 ∙ append_assoc out p.0 more)
+prefix_longer out text more p = (p.0 ++ more, search (rules, append_assoc))
 
 prefix_after : (text prefix whole : List ℕ) → IsPrefix prefix whole
     → IsPrefix (text ++ prefix) (text ++ whole)
-prefix_after text prefix whole p =
-    (p.0, ap (λ (l : List ℕ). text ++ l) p.1 ∙ sym (append_assoc text prefix p.0))
+prefix_after text prefix whole p = search (rules, append_assoc)
 
 module _ (rules : Rules) where
   -- the first of the lines are played first
@@ -34,7 +32,7 @@ module _ (rules : Rules) where
         between = more.between;
         first = outcome_line p.0 ++ more.first;
         second = more.second;
-        whole = p.4 ∙ ap (λ (u : List ℕ). outcome_line p.0 ++ u) more.whole
+        whole = p.4 ∙ ap (λ u. outcome_line p.0 ++ u) more.whole
             ∙ sym (append_assoc (outcome_line p.0) more.first more.second);
         begins = (p.0, p.1, more.first, p.3, refl, more.begins);
         ends = more.ends;
@@ -44,10 +42,6 @@ module _ (rules : Rules) where
   pub one_is_torn : OneIsTorn rules
   one_is_torn world last first second out p = go p.earlier p.split p.plays
     where
-      first_of : (x : List ℕ) (xs : List (List ℕ)) → first ∷ second ∷ [] ≡ x ∷ xs ++ p.final
-          → x ≡ first
-      first_of x xs e = cc
-
       go : (ls : List (List ℕ)) → first ∷ second ∷ [] ≡ ls ++ p.final
           → Plays rules world ls p.text p.between
           → (outcome : Outcome) × (between : WorldView) × rules.does first world outcome between
@@ -58,9 +52,8 @@ module _ (rules : Rules) where
       go (x ∷ xs) e q = (
         q.0,
         q.1,
-        subst (λ (l : List ℕ). rules.does l world q.0 q.1) (first_of x xs e) q.3,
-        subst (λ (l : List ℕ). IsPrefix (outcome_line q.0) l) (sym p.out_is)
-            (prefix_longer (outcome_line q.0) p.text p.prefix (q.2, q.4)),
+        (let same : x ≡ first = cc in rw same at q.3),
+        rw p.out_is (prefix_longer (outcome_line q.0) p.text p.prefix (q.2, q.4)),
       )
 
   module _ (clear : AreClear rules) where
@@ -72,34 +65,25 @@ module _ (rules : Rules) where
         plays_append rules w p.between l p.earlier p.final p.text p.torn p.plays p.ends in
         let both = plays_both w o lines more text q in
         let once = plays_once rules clear.one w lines (p.text ++ p.torn) both.first l both.between
-        (subst (λ (x : List (List ℕ)). Plays rules w x (p.text ++ p.torn) l) (sym p.split) whole)
-        both.begins in
+        (rw p.split whole) both.begins in
         let first : IsPrefix out (p.text ++ p.torn)
-        = subst (λ (x : List ℕ). IsPrefix x (p.text ++ p.torn)) (sym p.out_is)
-        (prefix_after p.text p.prefix p.torn p.is_prefix) in
-        subst (λ (x : List ℕ). IsPrefix out x) (sym both.whole)
-        (prefix_longer out both.first both.second
-        (subst (λ (x : List ℕ). IsPrefix out x) once.0 first))
+        = rw p.out_is (prefix_after p.text p.prefix p.torn p.is_prefix) in
+        rw both.whole (prefix_longer out both.first both.second (rw once.0 at first))
 
     pub only_whole_lines : OnlyWholeLines rules
     only_whole_lines world last other bytes out text rest lines (inl s) cut q =
         let h = begins_whole bytes rest s.0 lines cut s.1 in
-        torn_prefix world last other s.0 h.0 out text s.2
-        (subst (λ (x : List (List ℕ)). Plays rules world x text other) h.1 q)
+        torn_prefix world last other s.0 h.0 out text s.2 (rw h.1 at q)
     only_whole_lines world last other bytes out text rest lines (inr s) cut q =
         absurd (true≢false (sym s.10))
 
     pub torn_texts_begin : TornTextsBegin rules
     torn_texts_begin at_end ended world last other bytes out whole (inl s) q =
         let h = begins_all at_end bytes q.1 s.0 q.0 q.4 s.1 in
-        subst (λ (x : List ℕ). IsPrefix out x) (sym q.7)
-        (prefix_longer out q.2 (closing_lines other q.3)
-        (torn_prefix world last other s.0 h.0 out q.2 s.2
-        (subst (λ (x : List (List ℕ)). Plays rules world x q.2 other) h.1 q.5)))
+        rw q.7 (prefix_longer out q.2 (closing_lines other q.3)
+        (torn_prefix world last other s.0 h.0 out q.2 s.2 (rw h.1 at q.5)))
     torn_texts_begin at_end ended world last other bytes out whole (inr s) q =
         let played =
         cut_plays_once rules clear world last other bytes s.2 q.2 s.1 q.1 s.0 q.0 s.5 q.4 s.6 q.5 in
         let closed = closed_once s.2 q.2 last other s.3 q.3 played.0 played.1 s.7 q.6 in
-        subst (λ (x : List ℕ). IsPrefix x whole) (sym s.9)
-        (subst (λ (x : List ℕ). IsPrefix (s.2 ++ s.4) x) (closed ∙ sym q.7)
-        (prefix_after s.2 s.4 (closing_lines last s.3) s.8))
+        rw (s.9, q.7, ← closed) (prefix_after s.2 s.4 (closing_lines last s.3) s.8)

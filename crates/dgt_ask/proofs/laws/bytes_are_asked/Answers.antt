@@ -1,4 +1,4 @@
-use Rattle.{std.{proofs.Common.{[], inl, inr, refl, rules}, specs.Prelude.{codes}}, hex.specs.Hex.{decode_pairs}, dgt_command.specs.{Content.{Dump}, Words.{BeginsNoCommand}}}
+use Rattle.{std.{proofs.Common.{[], inl, inr, refl, rules}, specs.Prelude.{codes}}, hex.specs.Hex.{decode_pairs}, dgt_command.specs.Content.{Dump}}
 use Rattle.dgt_ask.proofs.laws.bytes_are_asked.Goals as goal
 
 pub returns-clause-command : goal.returns-clause-command
@@ -13,12 +13,10 @@ returns-clause-restart c = inr (inl (inr (inl (refl, refl))))
 pub returns-clause-log : goal.returns-clause-log
 returns-clause-log c = inr (inl (inr (inr (refl, refl))))
 
-no_command : BeginsNoCommand 0x4f
-no_command command rest e = search rules
-
 pub returns-clause-stray : goal.returns-clause-stray
 unfolding decode_pairs
-returns-clause-stray c = inr (inr (codes "4f", 0x4f, refl, (refl, no_command), refl))
+returns-clause-stray c =
+    inr (inr (codes "4f", 0x4f, refl, (refl, λ command rest e. search rules), refl))
 
 pub returns-clause-no_stray : goal.returns-clause-no_stray
 unfolding decode_pairs

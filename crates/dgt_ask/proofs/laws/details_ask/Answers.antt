@@ -1,5 +1,5 @@
 use Rattle.{std.{proofs.Common.{◌≡◌, ◌≢◌, ◌++◌, List, ℕ, [], arith, inl, inr, length, refl, suc, rules}, specs.{Fmt.{digits as decimal_digits}, Prelude.{codes, Ok}}}, hex.specs.Hex.{decode_of}}
-use Rattle.hex.specs.Hex.{decode_pairs}
+use Rattle.{hex.specs.Hex.{decode_pairs}, dgt_ask.specs.Asks.{HasBytes}}
 use Rattle.dgt_ask.specs.declared.details.Detail.TheVariants as detail
 use Rattle.dgt_ask.proofs.laws.details_ask.Goals as goal
 
@@ -33,17 +33,10 @@ returns-clause-text_bytes c digits bytes read =
     inr (detail.Text, digits, refl, inl (bytes, read, refl))
 
 pub returns-clause-icons : goal.returns-clause-icons
-returns-clause-icons c digits bytes read many = inr (
-  detail.Icons,
-  digits,
-  refl,
-  (
-    bytes,
-    inr (no_hyphen digits bytes read, some_digits digits bytes 251 read many, read),
-    omega (arith, many),
-    refl,
-  ),
-)
+returns-clause-icons c digits bytes read many =
+    let has : HasBytes digits bytes =
+    inr (no_hyphen digits bytes read, some_digits digits bytes 251 read many, read) in
+    inr (detail.Icons, digits, refl, (bytes, has, omega (arith, many), refl))
 
 pub returns-clause-set_and_run : goal.returns-clause-set_and_run
 returns-clause-set_and_run c digits bytes read =
@@ -68,15 +61,10 @@ returns-clause-other_size c = inr (
 )
 
 pub returns-clause-leds : goal.returns-clause-leds
-returns-clause-leds c digits bytes read many = inr (
-  detail.Leds,
-  digits,
-  refl,
-  (
-    inr (no_hyphen digits bytes read, some_digits digits bytes 254 read many, read),
-    omega (arith, many),
-  ),
-)
+returns-clause-leds c digits bytes read many =
+    let has : HasBytes digits bytes =
+    inr (no_hyphen digits bytes read, some_digits digits bytes 254 read many, read) in
+    inr (detail.Leds, digits, refl, (has, omega (arith, many)))
 
 pub returns-clause-no_leds : goal.returns-clause-no_leds
 returns-clause-no_leds c = inr (detail.Leds, codes "-", refl, (inl (refl, refl), omega arith))

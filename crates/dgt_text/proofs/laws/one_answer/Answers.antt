@@ -1,8 +1,8 @@
-use Rattle.dgt_text.proofs.AnswerLemmas.{broken_answers_begin, one_answer, one_is_cut_off}
+use Rattle.{std.proofs.Common.{rules}, dgt_text.proofs.AnswerLemmas.{broken_answers_begin, one_is_cut_off}}
 use Rattle.dgt_text.proofs.laws.one_answer.Goals as goal
 
 pub returns-clause-once : goal.returns-clause-once
-returns-clause-once c = one_answer c.one_conversation.ensures.once
+returns-clause-once c = search rules
 
 pub returns-clause-begins : goal.returns-clause-begins
 returns-clause-begins c = broken_answers_begin c.one_conversation.ensures.goes_on

@@ -14,13 +14,12 @@ loop-at-preserved-in-Continue-branch-2 g c =
     c.loop-at.invariant.served.answers.settled c.if-is_some.ensures
     (rw c.unwrap-used.ensures at c.take.ensures.event) taken.0 in
     record {
-      bound =
-          search (
-            rules,
-            places,
-            c.loop-at.invariant.bound,
-            rw c.unwrap-used.ensures at c.take.ensures.within,
-          );
+      bound = search (
+        rules,
+        places,
+        c.loop-at.invariant.bound,
+        rw c.unwrap-used.ensures at c.take.ensures.within,
+      );
       served = rw (chunk_more c.args.chunk.now c.loop-at.at c.unwrap-used.result.used)
           (served_then _ c.writes_in_a_row.ensures c.divisions_append.ensures _ _ _ _ _ _ _ _ _
           (heard found.0 ∷ [])

@@ -27,30 +27,27 @@ pub returns-then-given-eq0-clause-output : goal.returns-then-given-eq0-clause-ou
 returns-then-given-eq0-clause-output g c =
     let turns = c.loop.invariant.in_turns in
     let q = c.loop.invariant.played in
-    let at_end = g.R.Source.ended c.read_some.new.self in
     let ends = c.in-Ok.ensures.end (c.if-given-eq0.true, omega (arith, c.read_some.auto.buffer)) in
-    scripted_ends g.S.Stage.rules g.R.Source g.W.Sink at_end c.args.limit _ _ _ _ _ _ _ _ _ _ _ _
+    scripted_ends g.S.Stage.rules g.R.Source g.W.Sink _ c.args.limit _ _ _ _ _ _ _ _ _ _ _ _
     turns.bytes [] turns.given q
     (rw c.if-given-eq0.true at c.in-Ok.ensures.bytes.0) c.play_end.ensures.marks.of_line
-    (rw (append-nil q.rest) (c.play_end.ensures.played at_end q.rest ends q.kept q.cut.last))
+    (rw (append-nil q.rest) (c.play_end.ensures.played _ q.rest ends q.kept q.cut.last))
 
 pub returns-in_err-play_chunk-clause-output : goal.returns-in_err-play_chunk-clause-output
 returns-in_err-play_chunk-clause-output g c =
     let turns = c.loop.invariant.in_turns in
     let q = c.loop.invariant.played in
-    let at_end = g.R.Source.ended c.read_some.new.self in
-    scripted_stops g.S.Stage.rules g.R.Source g.W.Sink at_end c.args.limit _ _ _ _ _ _ _ _ _ _ _ _ _
+    scripted_stops g.S.Stage.rules g.R.Source g.W.Sink _ c.args.limit _ _ _ _ _ _ _ _ _ _ _ _ _
     turns.bytes _ turns.given q
     c.in-Ok.ensures.bytes.0 c.from_residual.ensures.1
-    (c.in_err-play_chunk.ensures.played at_end q.rest q.kept q.cut.last)
+    (c.in_err-play_chunk.ensures.played _ q.rest q.kept q.cut.last)
 
 pub returns-in_err-flush-clause-output : goal.returns-in_err-flush-clause-output
 returns-in_err-flush-clause-output g c =
     let turns = c.loop.invariant.in_turns in
     let q = c.loop.invariant.played in
-    let at_end = g.R.Source.ended c.read_some.new.self in
-    scripted_unflushed g.S.Stage.rules g.R.Source g.W.Sink at_end c.args.limit _ _ _ _ _ _ _ _ _ _ _
+    scripted_unflushed g.S.Stage.rules g.R.Source g.W.Sink _ c.args.limit _ _ _ _ _ _ _ _ _ _ _
     _ (Consumes-trans _ _ _ turns.bytes _ turns.given c.in-Ok.ensures.bytes.0)
     (on_more g.S.Stage.rules g.W.Sink _ _ _ _ _ _ _ _ _ _ _ _ _ q
-    (c.in_ok-play_chunk.ensures.played at_end q.rest q.kept q.cut.last))
+    (c.in_ok-play_chunk.ensures.played true q.rest q.kept q.cut.last))
     c.from_residual-in_err-flush.ensures.1 c.in_err-flush.ensures.output

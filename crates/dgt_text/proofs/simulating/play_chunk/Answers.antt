@@ -1,5 +1,5 @@
 use Rattle.{std.proofs.{Common.{refl, sym, ◌∙◌, append-nil, drop, true, arith, rules}, lemmas.List.{places}}, dgt_text.{specs.Simulating.{Stops}, proofs.PlayLemmas.{on_none, on_held, on_line}}}
-use Rattle.dgt_text.proofs.PlayLemmas.{on_rest, piece_exit, stops_after, held_bytes, line_bytes, left_bytes, feed_begins, no_flush_exit}
+use Rattle.dgt_text.proofs.PlayLemmas.{on_rest, piece_exit, stops_after, held_bytes, line_bytes, left_bytes, feed_begins}
 use Rattle.dgt_text.proofs.simulating.play_chunk.Goals as goal
 
 pub loop-at-init : goal.loop-at-init
@@ -65,8 +65,3 @@ returns-in_err-play_line-clause-played g c = λ at_end rest h k.
     (on_rest g.S.Stage.rules g.W.Sink (λ part. Stops g.S.Stage.rules at_end part fault)
     (stops_after g.S.Stage.rules at_end fault) _ _ _ _ _ _ _ _ _ _ (drop i p) q
     (c.in_err-play_line.ensures.played at_end _ _ (c.add.ensures q.rest q.kept) begins)))
-
-pub returns-in_err-play_line-clause-no_flush : goal.returns-in_err-play_line-clause-no_flush
-returns-in_err-play_line-clause-no_flush g c =
-    no_flush_exit g.W.Sink _ _ _ _ _ c.from_residual.ensures.1
-    c.loop-at.invariant.no_flush c.in_err-play_line.ensures.no_flush
