@@ -1,7 +1,8 @@
 -- Zeros complete each partial frame, and each list of bytes divides into frames in one way.
 use Rattle.std.proofs.Common.{◌≡◌, ℕ, suc, zero, ◌+◌, ◌-◌, ◌<◌, ◌≤◌, List, [], ◌∷◌, ◌++◌, length, refl, sym, ap, subst, ◌∙◌, inl, inr, arith, append_assoc, length-append, replicate, map, rules}
 use Rattle.std.proofs.lemmas.{Bool.{cases_eq, cases_lt, le-ltb, lt-ltb, ne_eqb, eq-eqb}, List.{append-nil, length-replicate, replicate_more, replicate-append-replicate, get_or-replicate, get_or_past}}
-use Rattle.{std.specs.{List.{flat_map, AllByRecursion}, Prelude.{Bool, false, slice_index, if◌then◌else◌}}, dgt_command.specs.Content.{CommandContent, ClockContent, ClockMessage, Leds, EventContent, Read, BadSize}}
+use Rattle.{std.specs.{List.{flat_map, AllByRecursion}, Prelude.{Bool, false, slice_index, if◌then◌else◌}}, dgt_command.specs.Content.{CommandContent, ClockContent, ClockMessage, Leds, EventContent}}
+use Rattle.dgt_command.specs.Content.{Read, BadSize}
 use Rattle.dgt_command.specs.{Content.{BadStart, Stray}, Encoding.{AreBytes, command_encoding, EncodesCommand}, Laws.{EachDividesOnce, EachHasItsWords, NoWordBeginsAPart, NoWordBeginsAnother}}
 use Rattle.dgt_command.specs.{Laws.{CommandsAreReadBack, ZerosSettleTheReader, DivisionsAppend, PrefixesDivideFirst}, Lengths.{word_length}, Words.{BeginsNoCommand, HasForm, IsWord, IsPartial}}
 use Rattle.dgt_command.{specs.Words.{Divides, Word, AreWords, word_bytes, IsNoise, IsNoiseList}, proofs.{CodeLemmas.{no_command}, WordLemmas.{body_length, same_word, begins, clock_word}}}

@@ -1,5 +1,6 @@
 -- No frame begins another. A long enough list begins with one, and zeros complete any other.
-use Rattle.std.proofs.Common.{suc, ◌≡◌, ◌≢◌, ℕ, ◌+◌, ◌-◌, ◌<◌, ◌≤◌, false, List, [], ◌∷◌, ◌++◌, length, get_or, take, drop, refl, sym, ap, subst, ◌∙◌, inl, inr, arith, length-append, Option, Some, None}
+use Rattle.std.proofs.Common.{suc, ◌≡◌, ◌≢◌, ℕ, ◌+◌, ◌-◌, ◌<◌, ◌≤◌, false, List, [], ◌∷◌, ◌++◌, length, get_or, take, drop, refl, sym, ap, subst, ◌∙◌, inl, inr, arith, length-append, Option, Some}
+use Rattle.std.proofs.Common.{None}
 use Rattle.std.proofs.{Common.{rules}, lemmas.{Bool.{cases_eq, cases_lt, le-ltb, ne_eqb}, List.{append_cancel_left, take_at, get_or_push, length-take-le, take-append-drop}}}
 use Rattle.{std.specs.Prelude.{◌==◌, slice_index, if◌then◌else◌}, dgt_command.specs.Content.{command_content, ClockContent, CommandContent, ClockMessage, Leds, EventContent, Read, BadSize, BadStart}}
 use Rattle.dgt_command.specs.{Content.{BadEnd, Stray}, Encoding.{bare_command, after_code, command_code, command_encoding}, Lengths.{word_length}, Words.{BeginsNoCommand, HasForm}}
