@@ -1,6 +1,7 @@
 /* Answers tests/libraries/chess_rules by dgt.h. */
 #include "dgt.h"
 
+#include <inttypes.h>
 #include <stdio.h>
 #include <stdlib.h>
 #include <string.h>
@@ -31,11 +32,17 @@ static void print_move(const dgt_chess_move *move) {
     if (move->promotion != 0) putchar(dgt_piece_letter((uint8_t)(move->promotion + 6)));
 }
 
-static void print_state(const dgt_chess_state *state, const dgt_chess_move *moves, size_t count) {
-    char fen[DGT_CHESS_FEN_ROOM], passed[3] = "-";
+static void print_fen(const dgt_chess_state *state) {
+    char fen[DGT_CHESS_FEN_ROOM];
     if (!dgt_chess_fen(state, fen)) exit(1);
+    printf("%s", fen);
+}
+
+static void print_state(const dgt_chess_state *state, const dgt_chess_move *moves, size_t count) {
+    char passed[3] = "-";
     if (state->passed != DGT_NO_SUCH) dgt_square_name(state->passed, passed);
-    printf("%s|%s|%d%d%d%d%d%d%d|", fen, passed, dgt_chess_is_check(state),
+    print_fen(state);
+    printf("|%s|%d%d%d%d%d%d%d|", passed, dgt_chess_is_check(state),
            dgt_chess_can_move(state), dgt_chess_is_mate(state), dgt_chess_is_stalemate(state),
            dgt_chess_is_dead(state), dgt_chess_is_fifty_moves(state),
            dgt_chess_is_seventy_five_moves(state));
@@ -117,7 +124,80 @@ static void walk(const dgt_chess_state *start, int count) {
     }
 }
 
+static void print_event(const dgt_game_event *event) {
+    static const char *const RESULTS[] = {"", "1-0", "0-1", "1/2-1/2"};
+    switch (event->kind) {
+    case DGT_GAME_BEGUN: printf("game "), print_fen(&event->state); break;
+    case DGT_GAME_MADE: break;
+    case DGT_GAME_UNSEEN: printf("unseen"); break;
+    case DGT_GAME_GAP: printf("gap %d ", event->count), print_fen(&event->state); break;
+    case DGT_GAME_BACK: printf("back %d", event->count); break;
+    case DGT_GAME_ENDED: printf("%s", RESULTS[event->result]); break;
+    case DGT_GAME_LOST: printf("lost"); break;
+    default: printf("found");
+    }
+    if (event->turned) printf(" turned");
+    for (int each = 0; each < DGT_MAX_UNSEEN && event->moves[each].from != event->moves[each].to;
+         each++) {
+        if (event->kind == DGT_GAME_UNSEEN) putchar(' ');
+        print_move(&event->moves[each]);
+    }
+    for (uint8_t square = 0; square < 64; square++) {
+        char name[3];
+        if (!(event->squares >> square & 1)) continue;
+        dgt_square_name(square, name);
+        printf(" %s", name);
+    }
+    putchar(';');
+}
+
+static void print_due(dgt_recogniser *recogniser, uint64_t at) {
+    dgt_game_event event;
+    while (dgt_recogniser_due(recogniser, at, &event)) print_event(&event);
+}
+
+static void print_known(dgt_recogniser *recogniser) {
+    uint64_t time;
+    dgt_chess_state state;
+    if (dgt_recogniser_due_at(recogniser, &time)) printf("|%" PRIu64 "|", time);
+    else printf("|-|");
+    if (dgt_recogniser_state(recogniser, &state)) print_fen(&state);
+}
+
+static void from(dgt_recogniser *recogniser, const char *rest) {
+    dgt_chess_state state;
+    if (dgt_chess_parse_fen(rest + 2, strlen(rest + 2), &state).status != DGT_CHESS_DONE) exit(1);
+    if (dgt_recogniser_go_on(recogniser, &state, rest[0] == '1') != DGT_CHESS_DONE) exit(1);
+}
+
+static void board(dgt_recogniser *recogniser, const char *rest) {
+    uint64_t at;
+    char how[4], text[DGT_PLACEMENT_ROOM];
+    uint8_t pieces[64], status = DGT_SEE_STILL_DUE;
+    if (sscanf(rest, "%" SCNu64 " %3s %71s", &at, how, text) != 3) exit(1);
+    if (!dgt_parse_placement(text, strlen(text), pieces).ok) exit(1);
+    uint8_t sight = how[0] == 's' ? DGT_SIGHT_SURE : how[0] == 'd' ? DGT_SIGHT_DOUBTED
+                                                                   : DGT_SIGHT_AWAY;
+    uint8_t running = how[2] == 'w' ? DGT_CHESS_WHITE : how[2] == 'b' ? DGT_CHESS_BLACK
+                                                                      : DGT_NO_SUCH;
+    while (status == DGT_SEE_STILL_DUE) {
+        print_due(recogniser, at);
+        status = dgt_recogniser_see(recogniser, at, pieces, sight, how[1] == 'c', running);
+    }
+    if (status != DGT_SEEN) exit(1);
+    print_due(recogniser, at);
+}
+
+static void games(dgt_recogniser *recogniser, char word, const char *rest) {
+    if (word == 'a' && !dgt_recogniser_init(recogniser)) exit(1);
+    if (word == 'f') from(recogniser, rest);
+    if (word == 'b') board(recogniser, rest);
+    if (word == 'd') print_due(recogniser, strtoull(rest, NULL, 10));
+    print_known(recogniser);
+}
+
 int main(void) {
+    static dgt_recogniser recogniser;
     char line[256];
     dgt_chess_state state;
     while (fgets(line, sizeof line, stdin)) {
@@ -126,7 +206,8 @@ int main(void) {
         if (line[0] == 'r') read(rest, &state);
         else if (line[0] == 's') san(&state, rest);
         else if (line[0] == 'p') printf("%zu", perft(&state, atoi(rest)));
-        else walk(&state, atoi(rest));
+        else if (line[0] == 'w') walk(&state, atoi(rest));
+        else games(&recogniser, line[0], rest);
         if (line[0] != 'w') putchar('\n');
     }
     return 0;

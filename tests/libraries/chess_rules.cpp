@@ -3,6 +3,7 @@
 
 #include <cstdio>
 #include <iostream>
+#include <sstream>
 
 namespace {
 
@@ -103,15 +104,83 @@ void walk(const State &start, int count) {
     }
 }
 
+// ---- Games
+
+std::string text(const dgt::game::Begun &begun) {
+    return "game " + begun.state.fen() + (begun.is_turned ? " turned" : "");
+}
+
+std::string text(const dgt::game::Made &made) {
+    return text(made.move);
+}
+
+std::string text(const dgt::game::Unseen &unseen) {
+    std::string told = "unseen";
+    for (const Move &move : unseen.moves) told += " " + text(move);
+    return told;
+}
+
+std::string text(const dgt::game::Gap &gap) {
+    return "gap " + std::to_string(gap.count) + " " + gap.state.fen();
+}
+
+std::string text(const dgt::game::Back &back) {
+    return "back " + std::to_string(back.count);
+}
+
+std::string text(const dgt::game::Ended &ended) {
+    return ended.result == dgt::GameResult::white_wins   ? "1-0"
+           : ended.result == dgt::GameResult::black_wins ? "0-1"
+                                                         : "1/2-1/2";
+}
+
+std::string text(const dgt::game::Lost &lost) {
+    std::string told = "lost";
+    for (unsigned square = 0; square < 64; square++)
+        if (lost.squares >> square & 1) told += " " + dgt::Square(square).name();
+    return told;
+}
+
+std::string text(const dgt::game::Found &) {
+    return "found";
+}
+
+std::vector<dgt::GameEvent> board(dgt::Recogniser &recogniser, std::istringstream words) {
+    std::int64_t at = 0;
+    std::string how, placement;
+    words >> at >> how >> placement;
+    std::optional<dgt::Position> position;
+    if (how[0] != 'a') position = dgt::Position(placement);
+    dgt::Sight sight{how[0] == 's', how[1] == 'c'};
+    if (how[2] != '-') sight.running = how[2] == 'w' ? Colour::white : Colour::black;
+    return recogniser.see(dgt::Milliseconds(at), position, sight);
+}
+
+std::string games(std::optional<dgt::Recogniser> &recogniser, char word, const std::string &rest) {
+    std::vector<dgt::GameEvent> events;
+    if (word == 'a') recogniser.emplace();
+    else if (word == 'f') recogniser->go_on(State(rest.substr(2)), rest[0] == '1');
+    else if (word == 'b') events = board(*recogniser, std::istringstream(rest));
+    else events = recogniser->due(dgt::Milliseconds(std::stoll(rest)));
+    std::string told;
+    for (auto &event : events)
+        told += std::visit([](auto &it) { return text(it); }, event) + ";";
+    const auto due_at = recogniser->due_at();
+    told += "|" + (due_at ? std::to_string(due_at->count()) : "-") + "|";
+    return recogniser->state() ? told + recogniser->state()->fen() : told;
+}
+
 } // namespace
 
 int main() {
     State state = State::start();
+    std::optional<dgt::Recogniser> recogniser;
     for (std::string line; std::getline(std::cin, line);) {
         const std::string rest = line.substr(line.find(' ') + 1);
         if (line[0] == 'r') std::cout << read([&] { return state = State(rest); }) << "\n";
         else if (line[0] == 's') std::cout << san(state, rest) << "\n";
         else if (line[0] == 'p') std::cout << perft(state, std::stoi(rest)) << "\n";
-        else walk(state, std::stoi(rest));
+        else if (line[0] == 'w') walk(state, std::stoi(rest));
+        else std::cout << games(recogniser, line[0], rest) << "\n";
     }
 }

@@ -2,6 +2,7 @@
 
 import { load } from "dgt-board";
 import { BadFen, BadSan, Impossible, State } from "dgt-board/chess.js";
+import { Recogniser } from "dgt-board/recogniser.js";
 import { readFileSync } from "node:fs";
 
 const dgt = await load();
@@ -51,7 +52,38 @@ function* walk(start, count) {
   }
 }
 
-let state;
+function said(event) {
+  switch (event.type) {
+    case "begun": return `game ${event.state.fen}${event.isTurned ? " turned" : ""}`;
+    case "made": return event.move;
+    case "unseen": return ["unseen", ...event.moves].join(" ");
+    case "gap": return `gap ${event.count} ${event.state.fen}`;
+    case "back": return `back ${event.count}`;
+    case "ended": return event.result;
+    case "lost": return ["lost", ...event.squares].join(" ");
+    default: return event.type;
+  }
+}
+
+const RUNNING = { w: "white", b: "black", "-": null };
+
+function seen(rest) {
+  const [at, [sight, confirmed, running], placement] = rest.split(" ");
+  const pieces = sight === "a" ? null : dgt.parsePlacement(placement);
+  return recogniser.see(Number(at), pieces, { isSure: sight === "s",
+    isConfirmed: confirmed === "c", running: RUNNING[running] });
+}
+
+function games(word, rest) {
+  let events = [];
+  if (word === "anew") recogniser = new Recogniser(dgt);
+  else if (word === "from") recogniser.goOn(State.parse(dgt, rest.slice(2)), rest[0] === "1");
+  else events = word === "board" ? seen(rest) : recogniser.due(Number(rest));
+  const { dueAt, state } = recogniser, told = events.map(event => `${said(event)};`).join("");
+  return [told, Number.isFinite(dueAt) ? dueAt : "-", state?.fen].join("|");
+}
+
+let state, recogniser;
 
 function answer(line) {
   const [, word, rest] = /^(\w+) (.*)$/.exec(line);
@@ -62,7 +94,8 @@ function answer(line) {
     }
     if (word === "san") return [san(state, rest)];
     if (word === "perft") return [perft(state, Number(rest))];
-    return walk(state, Number(rest));
+    if (word === "walk") return walk(state, Number(rest));
+    return [games(word, rest)];
   } catch (wrong) {
     if (wrong instanceof Impossible) return [`impossible ${WHY.indexOf(wrong.why)}`];
     if (wrong instanceof BadFen) return [`text ${FIELDS.indexOf(wrong.field)} ${wrong.at}`];

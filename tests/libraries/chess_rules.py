@@ -2,8 +2,10 @@
 
 import sys
 
-from dgt.chess import State
+from dgt import Position
+from dgt.chess import Colour, State
 from dgt.errors import BadFen, BadSan, Impossible
+from dgt.recogniser import Back, Begun, Ended, Gap, Lost, Made, Recogniser, Unseen
 
 GAME, REMEMBERED = 100, 8
 FIELDS = ("placement", "turn", "rights", "passed", "half_moves", "number")
@@ -49,8 +51,44 @@ def walk(start, count):
         print("|".join(parts))
 
 
+def said(event):
+    match event:
+        case Begun(state, is_turned):
+            return f"game {state.fen}{' turned' * is_turned}"
+        case Made(move):
+            return move
+        case Unseen(moves):
+            return f"unseen {' '.join(moves)}"
+        case Gap(count, state):
+            return f"gap {count} {state.fen}"
+        case Back(count):
+            return f"back {count}"
+        case Ended(result):
+            return result
+        case Lost(squares):
+            return f"lost {' '.join(squares)}"
+    return "found"
+
+
+def games(recogniser, word, rest):
+    events = []
+    if word == "from":
+        recogniser.go_on(State.parse(rest[2:]), rest[0] == "1")
+    elif word == "board":
+        at, how, placement = rest.split()
+        position = None if how[0] == "a" else Position.parse(placement)
+        running = {"w": Colour.WHITE, "b": Colour.BLACK}.get(how[2])
+        events = recogniser.see(int(at), position, is_sure=how[0] == "s",
+                                is_confirmed=how[1] == "c", running=running)
+    elif word == "due":
+        events = recogniser.due(int(rest))
+    due_at, state = recogniser.due_at(), recogniser.state
+    told = "".join(f"{said(event)};" for event in events)
+    return f"{told}|{'-' if due_at is None else due_at}|{state.fen if state else ''}"
+
+
 def main():
-    state = None
+    state, recogniser = None, None
     for line in sys.stdin:
         word, _, rest = line.rstrip("\n").partition(" ")
         try:
@@ -61,8 +99,11 @@ def main():
                 print(san(state, rest))
             elif word == "perft":
                 print(perft(state, int(rest)))
-            else:
+            elif word == "walk":
                 walk(state, int(rest))
+            else:
+                recogniser = Recogniser() if word == "anew" else recogniser
+                print(games(recogniser, word, rest))
         except Impossible as wrong:
             print("impossible", int(wrong.why))
         except BadFen as wrong:

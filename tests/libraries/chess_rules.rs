@@ -2,6 +2,7 @@
 
 use dgt::Square;
 use dgt::chess::{BadFen, BadSan, Colour, Man, Move, State};
+use dgt::game::{Event, GameResult, Observation, Recogniser, Sight};
 use std::fmt::Write;
 use std::io::{BufWriter, Write as _, stdin, stdout};
 
@@ -102,18 +103,83 @@ fn walk(start: &State, count: usize, mut out: impl std::io::Write) {
     }
 }
 
+fn said(event: &Event) -> String {
+    match event {
+        Event::Begun(state, false) => format!("game {state}"),
+        Event::Begun(state, true) => format!("game {state} turned"),
+        Event::Made(one) => text(*one),
+        Event::Unseen(moves) => {
+            let texts = moves.as_slice().iter().copied().map(text).collect::<Vec<_>>();
+            format!("unseen {}", texts.join(" "))
+        }
+        Event::Gap(state, count) => format!("gap {count} {state}"),
+        Event::Back(count) => format!("back {count}"),
+        Event::Ended(GameResult::WhiteWins) => "1-0".to_string(),
+        Event::Ended(GameResult::BlackWins) => "0-1".to_string(),
+        Event::Ended(GameResult::Draw) => "1/2-1/2".to_string(),
+        Event::Lost(squares) => (0..64).filter(|n| squares >> n & 1 == 1).fold(
+            "lost".to_string(),
+            |said, n| format!("{said} {}", Square::try_from(n).unwrap()),
+        ),
+        _ => "found".to_string(),
+    }
+}
+
+fn due(recogniser: &mut Recogniser, at: u64) -> String {
+    std::iter::from_fn(|| recogniser.due(at)).map(|event| said(&event) + ";").collect()
+}
+
+fn board(recogniser: &mut Recogniser, rest: &str) -> String {
+    let [at, how, placement] = rest.split(' ').collect::<Vec<_>>()[..] else { panic!("{rest}") };
+    let (at, how, pieces) = (at.parse().unwrap(), how.as_bytes(), placement.parse().unwrap());
+    let seen = Observation {
+        at,
+        sight: match how[0] {
+            b's' => Sight::Sure(pieces),
+            b'd' => Sight::Doubted(pieces),
+            _ => Sight::Away,
+        },
+        is_confirmed: how[1] == b'c',
+        running: match how[2] {
+            b'w' => Some(Colour::White),
+            b'b' => Some(Colour::Black),
+            _ => None,
+        },
+    };
+    let mut told = String::new();
+    while recogniser.see(&seen).is_err() {
+        told += &due(recogniser, at);
+    }
+    told + &due(recogniser, at)
+}
+
+fn games(recogniser: &mut Recogniser, word: &str, rest: &str) -> String {
+    let mut told = String::new();
+    match word {
+        "anew" => *recogniser = Recogniser::new(),
+        "from" => recogniser.go_on(rest[2..].parse().unwrap(), &rest[..1] == "1"),
+        "board" => told = board(recogniser, rest),
+        _ => told = due(recogniser, rest.parse().unwrap()),
+    }
+    let due_at = recogniser.due_at().map_or("-".to_string(), |time| time.to_string());
+    let state = recogniser.state().map_or(String::new(), |state| state.to_string());
+    format!("{told}|{due_at}|{state}")
+}
+
 fn main() {
     let (mut state, mut out) = (State::start(), BufWriter::new(stdout().lock()));
+    let mut recogniser = Recogniser::new();
     for line in stdin().lines().map(Result::unwrap) {
         let (word, rest) = line.split_once(' ').unwrap();
         let answer = match word {
             "read" => read(rest, &mut state),
             "san" => san(&state, rest),
             "perft" => perft(&state, rest.parse().unwrap()).to_string(),
-            _ => {
+            "walk" => {
                 walk(&state, rest.parse().unwrap(), &mut out);
                 continue;
             }
+            _ => games(&mut recogniser, word, rest),
         };
         writeln!(out, "{answer}").unwrap();
     }

@@ -1,6 +1,6 @@
 """The recognition of moves of the package for Python: each case of the table in
-apps/eboard/test_moves.c, which the adapter for eboard passes too, rows of its own, games of
-`dgt-livechess`, and random games."""
+apps/eboard/test_moves.c, which the adapter for eboard passes too, games of `dgt-livechess`, and
+random games. games.txt has more."""
 
 import pathlib
 import re
@@ -108,69 +108,6 @@ def do(hand, step):
         hand.rest(0.4)
 
 
-# ---- Results, and boards that are away or in doubt
-
-KINGS = "8/8/4k3/8/4K3/8/8/7R w - - 0 1"
-OPEN = "e2e4 e7e5 g1f3"
-# The FEN of the game if it isn't a new one, steps of the table, and what is reported. After `away`
-# the board isn't heard until `back`, and after `doubt` its picture is in doubt until `sure`. A
-# question mark shows what is reported by then.
-ROWS = [
-    ("a pawn taken in passing, by one that was lifted before", None,
-     "e2e4 a7a6 e4e5 d7. e5. d5p d5. d6P 2000", "e2e4 a7a6 e4e5 d7d5 e5d6"),
-    ("an illegal move of a king, and kings that are lifted", KINGS,
-     "h1h2 e6. e5k 5000 ? e4. e4K 1500", "h1h2 lost ? 1/2-1/2"),
-    ("kings that are put back, and one in the centre", None,
-     "e2e4 e7e5 e1. e8. d4K d5k 800 d4. d5. e1K e8k 1500 ? g1f3 e1. e8. e1K e8k d8. d8q e1. d4K "
-     "2000", "e2e4 e7e5 ? g1f3 lost"),
-    ("kings before the last move has rested", None,
-     "e2e4 e7e5 g1. f3N e1. e8. d5K e4. e4k 2000", f"{OPEN} 1-0"),
-    ("an analysis after the result", None,
-     f"{OPEN} e1. e8. e4. e4K d5k 1500 d5. e8k e4. e1K e4P 1000 b8c6 1000 f1b5 1000 b5f1 1000",
-     f"{OPEN} 1-0"),
-    ("pieces that are put back slowly after the result", None,
-     f"{OPEN} e1. e8. d4K e5. e5k 2000 d1. a8. d4. e1K e5. e8k 30000 f3. g1N e4. e2P 30000 a8r d1Q "
-     "? e7p", f"{OPEN} 0-1 ? game"),
-    ("pieces that are lifted or misplaced when the board is back", None,
-     "e2e4 e7e5 away g1. b8. back 60000 b8n h3N 1000 away h3. f3N back 5000 ? away b8. b6n back "
-     "2000 b6. c6n 1000", "e2e4 e7e5 g1h3 -g1h3 g1f3 ? lost found b8c6"),
-    ("the order of moves in doubt", None, "e2e4 doubt e7e5 g1f3 b8c6 f1b5 9000 ? sure 9000",
-     "e2e4 ? e7e5 g1f3 b8c6 f1b5"),
-    ("captures in doubt", None, "e2e4 doubt d7d5 e4d5 d8d5 b1c3 d5a5 9000 ? sure 9000",
-     "e2e4 ? d7d5 e4d5 d8d5 b1c3 d5a5"),
-]
-
-
-class Shown(Hand):
-    """A hand on a board that may be away or in doubt. `told` has all kinds of events."""
-
-    state = "sure"
-
-    def note(self, events):
-        for event in events:
-            super().note([event])
-            match event:
-                case self.events.Ended(result):
-                    self.told.append(result)
-                case self.events.Lost() | self.events.Found():
-                    self.told.append(type(event).__name__.lower())
-
-    def show(self):
-        position = self.dgt.Position.of_letters("".join(self.squares))
-        self.note(self.recogniser.see(round(1000 * self.time),
-                                      None if self.state == "away" else position,
-                                      is_sure=self.state != "doubt"))
-
-    def do(self, step):
-        if step == "?":
-            self.told.append(step)
-        elif step in ("away", "back", "doubt", "sure"):
-            self.state = step
-            self.show()
-        else:
-            do(self, step)
-
-
 # ---- Games that go on from a position
 
 # Moves on the board, and the moves after which a client of `dgt-livechess` continues its game. Then
@@ -229,13 +166,6 @@ class Recognition(cases.Case):
                 do(hand, step)
             hand.rest(12)  # moves faster than hands wait for 10 s
             wanted(name, hand.told, ["game", *right.split()])
-
-    def test_rows(self):
-        for name, fen, steps, right in ROWS:
-            hand = Shown(dgt, dgt.GameState.parse(fen or dgt.START_FEN).letters, fen)
-            for step in steps.split():
-                hand.do(step)
-            wanted(name, hand.told, ["game"] * (fen is None) + right.split())
 
     def test_given(self):
         """A game goes on from a position, whichever the board shows."""

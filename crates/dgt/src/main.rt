@@ -17,6 +17,7 @@ use crate::terminals::note_terminals;
 use dgt_arguments::{read, refuse_arguments};
 pub use dgt_program as program;
 use dgt_program::{Fault, run_to_status};
+use dgt_text::Device;
 use std::alloc::Global;
 use std::env;
 use std::io::{Read, Write};
@@ -33,7 +34,7 @@ fn main(rt: HostRuntime) -> ExitCode {
             note_terminals(&rt, words.as_slice());
             run_words(alloc, words, rt.stdin(), rt.stdout(), rt.stderr())
         }
-        Err(fault) => fault.report(&mut rt.stderr()),
+        Err(fault) => fault.report(&mut Device::new(rt.stderr())),
     };
     ExitCode::from(status)
 }

@@ -6,7 +6,7 @@
 use crate::run_words;
 use dgt_link::WorldFault;
 use dgt_program::Fault;
-use dgt_text::RunFault;
+use dgt_text::{Device, RunFault};
 use std::alloc::{AllocError, Global};
 use std::io;
 use std::io::{Cursor, Read, Write, sink};
@@ -191,7 +191,7 @@ fn check_reported(
     text: &str,
 ) -> Result<(), Fail> {
     let mut errors = Vec::with_capacity(rt.alloc(), ROOM)?;
-    let reported = fault.report(&mut errors);
+    let reported = fault.report(&mut Device::new(&mut errors));
     assert_ended(rt, text, (reported, errors.as_slice()), (status, text));
     Ok(())
 }

@@ -2,12 +2,17 @@
 use Rattle.std.proofs.Common.{◌≡◌, ◌≢◌, ◌+◌, ◌/◌, ◌<◌, ◌≤◌, ◌⊎◌, inl, inr, ℕ, false, List, [], ◌∷◌, ◌++◌, length, length-append, get_or, take, map, Bor, add-one, Option, Result, Ok, Err, None, Some}
 use Rattle.std.proofs.lemmas.{Grind.{common_steps}, List.{append-nil, get_or-append-add, get_or-map, get_or_append_left, get_or_at, length-map, take_all, Folds.{concat-append}}}
 use Rattle.std.specs.{List.{list_all, concat}, Prelude.{OnErr, IfNone, IfOk, IsErrAnd, IsOkAnd, MatchResult, Bool, true, not, codes, decimal, ◌==◌}, Result.{is_ok, result_ok}}
-use Rattle.{std.specs.Str.Parse.{ParsesUnsigned}, hex.{specs.Hex.{decode_sized}, proofs.HexLemmas.{IsOk-decode_sized, decode_of-ok}}, dgt_values.specs.Segment.{IsShownBy}}
+use Rattle.std.specs.Str.Parse.{AllDigits, ParsesUnsigned, digits_value}
+use Rattle.{hex.{specs.Hex.{decode_pairs, decode_sized}, proofs.HexLemmas.{IsOk-decode_sized, decode_of-ok}}, dgt_values.specs.Segment.{IsShownBy}}
 use Rattle.dgt_command.specs.{Content.{ClockContent, CommandContent, ClockMessage, EventContent, Stray, clock_content, known_clock}, Display.{HasNoSegments, Shows}, Words.{BeginsNoCommand, HasForm}}
-use Rattle.{dgt_command.specs.{Words.{IsPartial, IsWord}, declared.{clock.ClockCommand.{ClockCommand}, ids.KnownId.{KnownId}}}, dgt_ask.specs.{Asking.{Awaits, IsAfterId}, Asks.{AskInOrder}}}
+use Rattle.{dgt_command.specs.{Words.{IsPartial, IsWord}, declared.{clock.ClockCommand.{ClockCommand}, ids.KnownId.{KnownId}}}}
+use Rattle.dgt_ask.specs.{Asking.{Awaits, IsAfterId, WritesId, id_word}, Asks.{AskInOrder, padded}}
 use Rattle.dgt_ask.specs.{Asks.{AsksBytes, AsksHelp, DetailAsks, HasBytes, IsNamed, IsRaw, LacksOperand, detail_text}, declared.{asking.{Awaited.{Awaited}, BadAsk.{BadAsk}}, details.Detail.{Detail}}}
 use Rattle.dgt_ask.specs.declared.asking.{Awaited.TheVariants.{Name}, BadAsk.TheVariants.{Missing, OutOfMemory}}
-use Rattle.std.proofs.{Common.{ap, arith, refl, sym, ◌∙◌, slice_index as nth, rules}, Math.Seq.{take-suc}, lemmas.{Bool.{cases_lt}, Fmt.{decimal_digit, first_decimal, parse-decimal}}}
+use Rattle.std.proofs.{Common.{ap, arith, refl, subst, sym, ◌∙◌, slice_index as nth, rules}, Math.Seq.{take-suc}, lemmas.Bool.{cases_lt}}
+use Rattle.std.proofs.lemmas.{Fmt.{decimal-digits_value, decimal_digit, first_decimal, parse-decimal}, Str.Parse.{IsNumeralModel, numerals_by_value, parse_plain, tells_digits}}
+use Rattle.dgt_command.{proofs.CodeLemmas.{found_id}, specs.Ids.{id_number, id_with}}
+use Rattle.std.{proofs.lemmas.List.{length-replicate}, specs.Prelude.{◌-◌, replicate}}
 use Rattle.dgt_ask.specs.declared.details.Detail.TheVariants as detail
 use Rattle.dgt_ask.specs.declared.asking.Awaited.TheVariants as awaited
 
@@ -94,6 +99,88 @@ pub displayed : {E : Type 0} (word text : List ℕ) (r : Result ClockCommand E) 
 displayed word text (Ok command) given message same shown is shows =
     ap clock_content (inside _ _ is) ∙ same_display word text message _ same shown shows
 displayed word text (Err _) given message same shown is shows = cc
+
+-- ---- short operands
+
+-- no space is missing
+pub full : (size : ℕ) (text : List ℕ) → length text ≡ size → padded size text ≡ text
+full size text sized =
+    let none : size - length text ≡ 0 = omega (arith, sized) in rw (none, append-nil) refl
+
+padded_length : (size : ℕ) (text : List ℕ) → length text ≤ size
+    → length (padded size text) ≡ size
+padded_length size text short =
+    simp (length-append, length-replicate) (omega (arith, short))
+
+pub six_padded : (xs text : List ℕ) → length text ≤ 6 → xs ≡ padded 6 text
+    → six_of xs ≡ padded 6 text
+six_padded xs text short is = six xs (ap length is ∙ padded_length 6 text short) ∙ is
+
+pub eight_padded : (xs text : List ℕ) → length text ≤ 8 → xs ≡ padded 8 text
+    → nth xs 0 ∷ nth xs 1 ∷ nth xs 2 ∷ nth xs 3 ∷ nth xs 4 ∷ nth xs 5 ∷ nth xs 6 ∷ nth xs 7 ∷ 0 ∷ []
+    ≡ padded 8 text ++ 0 ∷ []
+eight_padded xs text short is =
+    eight xs (ap length is ∙ padded_length 8 text short) ∙ ap (λ l. l ++ 0 ∷ []) is
+
+-- ---- numbers of beeps
+
+own : IsNumeralModel (AllDigits 10) (digits_value 10)
+own = numerals_by_value (AllDigits 10) tells_digits
+
+-- digits without a leading zero are the number that is parsed
+pub said : {E : Type 0} (word : List ℕ) (number : ℕ) (r : Result ℕ E) → r ≡ Ok number
+    → ParsesUnsigned 8 10 word r → get_or word 0 0 ≢ 43
+    → (get_or word 0 0 ≡ 48 → length word ≤ 1) → (number < 256) × (word ≡ decimal number)
+said word number r is parses no_plus single =
+    let read = rw is at (parse_plain own 8 word r parses no_plus) in
+    let some : 0 < length word = read.0.1 in
+    let small : digits_value 10 word < 256 = read.0.2 in
+    let whole = decimal-digits_value own word read.0.0 some
+    (λ zero. let one = single zero in omega (arith, one, some)) (omega (arith, small)) in
+    (rw read.1 small, sym whole ∙ ap decimal (sym read.1))
+
+-- ---- words for ids
+
+-- a message of this word, whose operand is this text
+writes : (each : Detail) (text : List ℕ) (known : KnownId) (payload : List ℕ)
+    → each ≢ detail.ClockMessage → DetailAsks each text (ClockMessage (known_clock known payload))
+    → WritesId (detail_text each) (id_number known)
+writes each text known payload other asks =
+    (known_clock known payload, refl, inr (each, text, other, refl, asks))
+
+named_id : (word : List ℕ) (known : KnownId) → IsNamed word (ClockMessage (known_clock known []))
+    → WritesId word (id_number known)
+named_id word known named = (known_clock known [], refl, inl named)
+
+word_writes : (known : KnownId) → WritesId (id_word known) (id_number known)
+unfolding decode_pairs
+word_writes KnownId.Display =
+    writes detail.Display (codes "0000000000000000") KnownId.Display
+    (0 ∷ 0 ∷ 0 ∷ 0 ∷ 0 ∷ 0 ∷ 0 ∷ 0 ∷ []) (λ e. cc)
+    (inl (0 ∷ 0 ∷ 0 ∷ 0 ∷ 0 ∷ 0 ∷ 0 ∷ 0 ∷ [], refl, refl))
+word_writes KnownId.Icons =
+    writes detail.Icons (codes "-") KnownId.Icons [] (λ e. cc)
+    ([], inl (refl, refl), omega arith, refl)
+word_writes KnownId.End = named_id (codes "end") KnownId.End (inl (refl, refl))
+word_writes KnownId.Button = named_id (codes "button") KnownId.Button (inr (inl (refl, refl)))
+word_writes KnownId.Version =
+    named_id (codes "clockversion") KnownId.Version (inr (inr (refl, refl)))
+word_writes KnownId.SetAndRun =
+    writes detail.SetAndRun (codes "00000000000000") KnownId.SetAndRun
+    (0 ∷ 0 ∷ 0 ∷ 0 ∷ 0 ∷ 0 ∷ 0 ∷ []) (λ e. cc)
+    (0 ∷ 0 ∷ 0 ∷ 0 ∷ 0 ∷ 0 ∷ 0 ∷ [], refl, refl)
+word_writes KnownId.Beep =
+    writes detail.Beep (codes "0") KnownId.Beep (0 ∷ []) (λ e. cc)
+    (0, omega arith, sym (decimal_digit 0 (omega arith)), refl)
+word_writes KnownId.Text =
+    writes detail.Text (codes "000000000000000000") KnownId.Text
+    (0 ∷ 0 ∷ 0 ∷ 0 ∷ 0 ∷ 0 ∷ 0 ∷ 0 ∷ 0 ∷ []) (λ e. cc)
+    (inl (0 ∷ 0 ∷ 0 ∷ 0 ∷ 0 ∷ 0 ∷ 0 ∷ 0 ∷ 0 ∷ [], refl, refl))
+
+pub writes_id : (word : List ℕ) (id : ℕ) (known : KnownId) → word ≡ id_word known
+    → id_with id ≡ Some known → WritesId word id
+writes_id word id known is found =
+    rw (is, found_id id known found) (word_writes known)
 
 -- ---- where a word is split
 

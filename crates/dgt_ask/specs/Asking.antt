@@ -1,8 +1,9 @@
 -- The effects of the calls that read a word of `dgt ask`.
-use Rattle.std.specs.Prelude.{◌≡◌, ◌+◌, ◌≤◌, ℕ, List, ◌∷◌, ◌++◌, codes, length, take, Result, MatchResult}
+use Rattle.std.specs.Prelude.{◌≡◌, ◌≢◌, ◌⊎◌, ◌+◌, ◌≤◌, ℕ, List, ◌∷◌, ◌++◌, codes, length, take, Result, MatchResult}
 use Rattle.std.specs.List.{concat}
-use Rattle.dgt_command.specs.Content.{CommandContent, command_content}
+use Rattle.dgt_command.specs.Content.{ClockContent, CommandContent, ClockMessage, command_content}
 use Rattle.dgt_command.specs.Encoding.{command_encoding}
+use Rattle.dgt_command.specs.declared.ids.KnownId.{KnownId}
 use Rattle.dgt_ask.specs.declared.asking.Asked.{Asked}
 use Rattle.dgt_ask.specs.declared.asking.Asked.TheVariants as asked
 use Rattle.dgt_ask.specs.declared.asking.Awaited.{Awaited}
@@ -12,7 +13,7 @@ use Rattle.dgt_ask.specs.declared.asking.BadAsk.{BadAsk}
 use Rattle.dgt_ask.specs.declared.asking.BadAsk.TheVariants.{OutOfMemory, Unfit}
 use Rattle.dgt_ask.specs.declared.details.Detail.{Detail}
 use Rattle.dgt_ask.specs.declared.details.Detail.TheVariants as detail
-use Rattle.dgt_ask.specs.Asks.{AsksHelp, IsNamed, detail_text}
+use Rattle.dgt_ask.specs.Asks.{AsksHelp, DetailAsks, IsNamed, detail_text}
 
 -- the request of this word, which is a command without operands
 abbrev pub IsAskedBy : List ℕ → Asked → Type 0
@@ -41,6 +42,25 @@ Takes r old new bytes =
 abbrev pub IsUnfit : Detail → List ℕ → BadAsk → Type 0
 IsUnfit word text (Unfit detail given) = (detail ≡ word) × (given.now ≡ text)
 IsUnfit word text _ = ⊥
+
+-- the word for clock messages with this id
+abbrev pub id_word : KnownId → List ℕ
+id_word KnownId.Display = codes "display"
+id_word KnownId.Icons = codes "icons"
+id_word KnownId.End = codes "end"
+id_word KnownId.Button = codes "button"
+id_word KnownId.Version = codes "clockversion"
+id_word KnownId.SetAndRun = codes "setandrun"
+id_word KnownId.Beep = codes "beep"
+id_word KnownId.Text = codes "text"
+
+-- the word requests clock messages with this id, by itself or with an operand
+abbrev pub WritesId : List ℕ → ℕ → Type 0
+WritesId word id =
+    (message : ClockContent) × (message.id ≡ id)
+    × (IsNamed word (ClockMessage message)
+    ⊎ ((each : Detail) × (text : List ℕ) × (each ≢ detail.ClockMessage)
+    × (word ≡ detail_text each) × DetailAsks each text (ClockMessage message)))
 
 -- the bytes of a clock message with this id are awaited
 abbrev pub AwaitsBytes : List ℕ → Awaited → Type 0

@@ -1,5 +1,5 @@
 -- The commands and bytes that the words of `dgt ask` request.
-use Rattle.std.specs.Prelude.{◌≡◌, ◌≢◌, ◌<◌, ◌≤◌, ◌⊎◌, ℕ, false, List, [], ◌∷◌, ◌++◌, length, codes, decimal, Ok, IsOkAnd, get_or, slice_index as nth}
+use Rattle.std.specs.Prelude.{◌≡◌, ◌≢◌, ◌<◌, ◌≤◌, ◌⊎◌, ℕ, false, ◌-◌, List, [], ◌∷◌, ◌++◌, length, replicate, codes, decimal, Ok, IsOkAnd, get_or, slice_index as nth}
 use Rattle.std.specs.Str.{IsAscii}
 use Rattle.hex.specs.Hex.{decode_of, decode_sized}
 use Rattle.dgt_command.specs.declared.ids.KnownId.{KnownId}
@@ -57,16 +57,22 @@ HasPayload known size text message =
     (payload : List ℕ) × (decode_sized text size ≡ Ok payload)
     × (message ≡ known_clock known payload)
 
--- six characters that the clock can show, or the bytes of a display
+-- the text, and spaces up to this number of characters
+abbrev pub padded : ℕ → List ℕ → List ℕ
+padded size text = text ++ replicate (size - length text) 32
+
+-- up to six characters that the clock can show, or the bytes of a display
 abbrev pub IsDisplay : List ℕ → ClockContent → Type 0
 IsDisplay text message =
-    HasPayload KnownId.Display 8 text message ⊎ ((length text ≡ 6) × Shows text 0 0 message)
+    HasPayload KnownId.Display 8 text message
+    ⊎ ((length text ≤ 6) × Shows (padded 6 text) 0 0 message)
 
--- eight characters of ASCII, or the bytes of a text
+-- up to eight characters of ASCII, or the bytes of a text
 abbrev pub IsText : List ℕ → ClockContent → Type 0
 IsText text message =
     HasPayload KnownId.Text 9 text message
-    ⊎ ((length text ≡ 8) × IsAscii text × (message ≡ known_clock KnownId.Text (text ++ 0 ∷ [])))
+    ⊎ ((length text ≤ 8) × IsAscii text
+    × (message ≡ known_clock KnownId.Text (padded 8 text ++ 0 ∷ [])))
 
 -- an id, a space, and the bytes of a clock message without another word
 abbrev pub IsRaw : List ℕ → ClockContent → Type 0

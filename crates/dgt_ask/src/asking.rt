@@ -146,6 +146,12 @@ fn take<'a>(
         × (bytes.new.items ≡ bytes.old.items) }
     ensures id { awaited.entry ≡ Awaited.Detail Detail.ClockMessage → ¬ (AsksHelp word.now) →
         IsOkAnd result (AwaitsBytes word.now) × (bytes.new.items ≡ bytes.old.items) }
+    ensures fits { (each : Detail) (asked : CommandContent) →
+        awaited.entry ≡ Awaited.Detail each → each ≢ Detail.ClockMessage →
+        (AsksHelp word.now → each ≡ Detail.Text) → DetailAsks each word.now asked →
+        Takes result bytes.old.items bytes.new.items (command_encoding asked) }
+    ensures help { AsksHelp word.now → awaited.entry ≢ Awaited.Detail Detail.Text →
+        IsErrAnd result (λ fault. fault ≡ BadAsk.Help) × (bytes.new.items ≡ bytes.old.items) }
 {
     match awaited {
         // Only here are `--help` and `-h` a text.

@@ -6,9 +6,10 @@ ghost use Rattle.dgt_command.specs.declared.ids.KnownId.{KnownId};
 ghost use Rattle.dgt_command.specs.Content.{command_content, ClockContent, ClockMessage, CommandContent, Leds, clock_content, known_clock};
 ghost use Rattle.dgt_command.specs.Display.{Shows};
 ghost use Rattle.std.specs.Str.{IsAscii};
-ghost use Rattle.dgt_command.specs.Ids.{has_own_case};
+ghost use Rattle.dgt_command.specs.Ids.{has_own_case, id_with};
 ghost use Rattle.hex.specs.Hex.{decode_of, decode_sized};
-ghost use Rattle.dgt_ask.specs.Asks.{DetailAsks, HasBytes, detail_text};
+ghost use Rattle.dgt_ask.specs.Asking.{WritesId, id_word};
+ghost use Rattle.dgt_ask.specs.Asks.{DetailAsks, HasBytes, detail_text, padded};
 
 use dgt_command::{
     ClockCommand, Command, KnownId, LedBytes, MAX_LED_BYTES, Payload, RawClock, display,
@@ -78,8 +79,10 @@ fn clock(message: ClockCommand<'_>) -> Option<Command<'_>>
 
 // A decimal number as in scripts, without a sign or leading zeros.
 pub(crate) fn beep(word: &str) -> Option<Command<'static>>
-    ensures { (asked : CommandContent) → DetailAsks Detail.Beep word.now asked →
+    ensures asks { (asked : CommandContent) → DetailAsks Detail.Beep word.now asked →
         IsSomeAnd result (λ command. command_content command ≡ asked) }
+    ensures asked { IfSome result (λ command.
+        DetailAsks Detail.Beep word.now (command_content command)) }
 {
     let first = *word.as_bytes().first()?;
     if first == b'+' {
@@ -119,7 +122,8 @@ fn display_bytes(word: &str) -> Option<Command<'static>>
 }
 
 fn display_characters(word: &str) -> Option<Command<'static>>
-    ensures { (message : ClockContent) → length word.now ≡ 6 → Shows word.now 0 0 message →
+    ensures { (message : ClockContent) → length word.now ≤ 6 →
+        Shows (padded 6 word.now) 0 0 message →
         IsSomeAnd result (λ command. command_content command ≡ ClockMessage message) }
 {
     let letters = padded::<6>(word)?;
@@ -157,8 +161,9 @@ fn text_bytes(word: &str) -> Option<Command<'static>>
 }
 
 fn text_characters(word: &str) -> Option<Command<'static>>
-    ensures { length word.now ≡ 8 → IsAscii word.now → IsSomeAnd result (λ command.
-        command_content command ≡ ClockMessage (known_clock KnownId.Text (word.now ++ 0 ∷ []))) }
+    ensures { length word.now ≤ 8 → IsAscii word.now → IsSomeAnd result (λ command.
+        command_content command
+        ≡ ClockMessage (known_clock KnownId.Text (padded 8 word.now ++ 0 ∷ []))) }
 {
     if !word.is_ascii() {
         return None;
@@ -169,7 +174,8 @@ fn text_characters(word: &str) -> Option<Command<'static>>
 
 // The bytes of a word, padded with spaces.
 fn padded<const N: usize>(word: &str) -> Option<[u8; N]>
-    ensures { length word.now ≡ N → result ≡ Some word.now }
+    ensures { MatchOption result (N < length word.now)
+        (λ bytes. (length word.now ≤ N) × (bytes ≡ padded N word.now)) }
 {
     let mut bytes = [b' '; N];
     if word.len() > N {
@@ -285,8 +291,16 @@ pub(crate) fn raw<'r>(id: u8, word: &str, room: &'r mut [u8]) -> Result<Command<
 }
 
 // The word for the clock messages of an id.
-fn own_word(id: u8) -> Option<&'static str> {
-    let word = match KnownId::with_number(id)? {
+fn own_word(id: u8) -> Option<&'static str>
+    ensures { MatchOption result (id_with id ≡ None) (λ word. WritesId word.now id) }
+{
+    Some(id_word(KnownId::with_number(id)?))
+}
+
+fn id_word(id: KnownId) -> &'static str
+    ensures { result.now ≡ id_word id }
+{
+    match id {
         KnownId::Display => "display",
         KnownId::Icons => "icons",
         KnownId::End => "end",
@@ -295,6 +309,5 @@ fn own_word(id: u8) -> Option<&'static str> {
         KnownId::SetAndRun => "setandrun",
         KnownId::Beep => "beep",
         KnownId::Text => "text",
-    };
-    Some(word)
+    }
 }

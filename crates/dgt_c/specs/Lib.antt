@@ -20,6 +20,7 @@ pub mod PlainFollower
 pub mod Chess
 pub mod ChessTexts
 pub mod Games
+pub mod Recognisers
 -- That reports are unique.
 pub mod Once
 pub mod ChessOnce

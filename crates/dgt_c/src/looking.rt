@@ -1,6 +1,6 @@
 //! C calls that read the state of a host, or of a follower through its host.
 
-ghost use Rattle.std.specs.Prelude.{◌≡◌, ◌↔◌, ◌≤◌, ◌++◌, length, drop, map, option_map, IsTrue, IsSome, MatchOption};
+ghost use Rattle.std.specs.Prelude.{◌≡◌, ◌↔◌, ◌<◌, ◌≤◌, ◌++◌, length, drop, map, option_map, IsTrue, IsSome, MatchOption};
 ghost use Rattle.dgt_values.specs.Board.{piece_code};
 ghost use Rattle.dgt_values.specs.Placement.{placement_text};
 ghost use Rattle.dgt_decode.specs.Grammar.{unfinished_message};
@@ -14,6 +14,7 @@ use crate::clocks::clock_for_c;
 use crate::copying::put_placement;
 use crate::handles::{DgtFollower, DgtHost};
 use crate::header::{DgtClock, PLACEMENT_ROOM, UNKNOWN_CLOCK};
+use dgt_decode::MAX_TOTAL;
 use dgt_host::{Clock, Host, MAX_AWAITED};
 use dgt_values::Kind;
 
@@ -136,6 +137,7 @@ pub extern "C" fn dgt_host_unread(host: &mut DgtHost) -> usize
     ensures same { host.new.inside ≡ host.old.inside }
     ensures length { result ≡ length host.old.inside.unread }
     ensures all_unfinished { unfinished_message host.old.inside.unread ≡ host.old.inside.unread }
+    ensures limit { result < MAX_TOTAL }
 {
     host.get().unread()
 }
@@ -148,6 +150,7 @@ pub extern "C" fn dgt_follower_unread(follower: &mut DgtFollower) -> usize
     ensures length { result ≡ length follower.old.inside.host.unread }
     ensures all_unfinished { unfinished_message follower.old.inside.host.unread
         ≡ follower.old.inside.host.unread }
+    ensures limit { result < MAX_TOTAL }
 {
     follower.get().host().unread()
 }

@@ -1,12 +1,19 @@
 //! C calls of a recogniser of games.
 
-ghost use Rattle.std.specs.Prelude.{◌≡◌, ◌≢◌, ◌⊎◌, ◌<◌, ◌≤◌, false, IsTrue, MatchOption, MatchResult, Option};
+ghost use Rattle.std.specs.Prelude.{◌≡◌, ◌≢◌, ◌⊎◌, ◌↔◌, ◌<◌, ◌≤◌, ◌+◌, ℕ, false, IsTrue, MatchOption, MatchResult, Option, List, map};
+ghost use Rattle.dgt_values.specs.Board.{piece_code};
+ghost use Rattle.dgt_values.specs.declared.pieces.Piece.{Piece};
 ghost use Rattle.dgt_chess.specs.declared.pieces.Colour.{Colour as AnyColour};
 ghost use Rattle.dgt_chess.specs.declared.state.State.{State as AnyState};
 ghost use Rattle.dgt_game.specs.declared.event.Event.{Event as AnyEvent};
 ghost use Rattle.dgt_game.specs.declared.observation.Observation.{Observation as AnyObservation};
+ghost use Rattle.dgt_game.specs.declared.observation.Sight.{Sight as AnySight};
+ghost use Rattle.dgt_game.specs.Planning.{HasNothing, IsPlanned};
+ghost use Rattle.dgt_game.specs.Timing.{IsIdle};
+ghost use Rattle.dgt_game.specs.Waiting.{IsQuiet, last_of};
 ghost use Rattle.dgt_c.specs.Chess.{HasStatus, SaysState};
-ghost use Rattle.dgt_c.specs.Games.{SaysObservation, SaysSight, game_event_reported, side_number};
+ghost use Rattle.dgt_c.specs.Games.{SaysObservation, SaysSight, side_number};
+ghost use Rattle.dgt_c.specs.Recognisers.{HasGoneOn, HasSeen, HasTold, Writes};
 ghost use Rattle.dgt_c.specs.Starting.{ArePieces};
 
 use crate::checking::read_position;
@@ -25,7 +32,8 @@ use dgt_game::{Observation, Sight};
 fn read_sight(pieces: &[u8; 64], sight: u8) -> Result<Sight, u8>
     ensures { MatchResult result (λ seen. SaysSight pieces.now sight seen)
         (λ status. ((status ≡ SEE_BAD_PIECES) × (sight ≢ SIGHT_AWAY) × ¬ (ArePieces pieces.now))
-        ⊎ ((status ≡ SEE_BAD_SIGHT) × (SIGHT_AWAY < sight))) }
+        ⊎ ((status ≡ SEE_BAD_SIGHT) × (SIGHT_AWAY < sight)
+        × ((stand : List Piece) × (map piece_code stand ≡ pieces.now)))) }
 {
     if sight == SIGHT_AWAY {
         return Ok(Sight::Away);
@@ -66,14 +74,18 @@ pub extern "C" fn dgt_recogniser_see(
 ) -> u8
     ensures place { recogniser.new.at ≡ recogniser.old.at }
     ensures seen { result ≡ SEEN → (seen : AnyObservation)
-        × SaysObservation now pieces.now sight confirmed running seen }
+        × SaysObservation now pieces.now sight confirmed running seen
+        × HasSeen recogniser.old.inside seen recogniser.new.inside }
     ensures still_due { result ≡ SEE_STILL_DUE → (seen : AnyObservation)
-        × SaysObservation now pieces.now sight confirmed running seen }
+        × SaysObservation now pieces.now sight confirmed running seen
+        × ¬ (IsIdle now recogniser.old.inside) }
     ensures bad_pieces { result ≡ SEE_BAD_PIECES →
         (sight ≢ SIGHT_AWAY) × ¬ (ArePieces pieces.now) }
-    ensures bad_sight { result ≡ SEE_BAD_SIGHT → SIGHT_AWAY < sight }
+    ensures bad_sight { result ≡ SEE_BAD_SIGHT → (SIGHT_AWAY < sight)
+        × ((stand : List Piece) × (map piece_code stand ≡ pieces.now)) }
     ensures bad_side { result ≡ SEE_BAD_SIDE →
-        (side : Option AnyColour) → running ≢ side_number side }
+        ((shown : AnySight) × SaysSight pieces.now sight shown)
+        × ((side : Option AnyColour) → running ≢ side_number side) }
     ensures refused { result ≢ SEEN → recogniser.new.inside ≡ recogniser.old.inside }
     ensures statuses { result ≤ SEE_STILL_DUE }
 {
@@ -102,6 +114,16 @@ pub extern "C" fn dgt_recogniser_see(
 pub extern "C" fn dgt_recogniser_due_at(recogniser: &mut DgtRecogniser, time: &mut u64) -> bool
     ensures place { recogniser.new.at ≡ recogniser.old.at }
     ensures same { recogniser.new.inside ≡ recogniser.old.inside }
+    ensures at { IsTrue result → (now : ℕ) → IsIdle now recogniser.old.inside
+        ↔ (IsQuiet recogniser.old.inside × (now < time.new)) }
+    ensures none { result ≡ false → (time.new ≡ time.old)
+        × ((now : ℕ) → IsIdle now recogniser.old.inside) }
+    ensures news { ¬ (IsQuiet recogniser.old.inside) → IsTrue result
+        × (time.new ≡ recogniser.old.inside.since) }
+    ensures soon { IsTrue result → time.new ≤ recogniser.old.inside.since + 60000 }
+    ensures why { IsPlanned recogniser.old.inside → result ≡ false
+        → (recogniser.old.inside.is_sure ≡ false) ⊎ (recogniser.old.inside.is_confirmed ≡ false)
+        ⊎ HasNothing recogniser.old.inside }
 {
     put_time(recogniser.get().due_at(), time)
 }
@@ -115,8 +137,9 @@ pub extern "C" fn dgt_recogniser_due(
     event: &mut DgtGameEvent,
 ) -> bool
     ensures place { recogniser.new.at ≡ recogniser.old.at }
-    ensures told { IsTrue result → (told : AnyEvent) × (event.new ≡ game_event_reported told) }
-    ensures none { result ≡ false → event.new ≡ event.old }
+    ensures due { (told : Option AnyEvent)
+        × HasTold now recogniser.old.inside told recogniser.new.inside
+        × Writes told result event.old event.new }
 {
     match recogniser.get().due(now) {
         Some(told) => {
@@ -135,8 +158,9 @@ pub extern "C" fn dgt_recogniser_state(
 ) -> bool
     ensures place { recogniser.new.at ≡ recogniser.old.at }
     ensures same { recogniser.new.inside ≡ recogniser.old.inside }
-    ensures known { IsTrue result → (known : AnyState) × SaysState state.new known }
-    ensures none { result ≡ false → state.new ≡ state.old }
+    ensures last { MatchOption (last_of recogniser.old.inside.memory)
+        ((result ≡ false) × (state.new ≡ state.old))
+        (λ step. IsTrue result × SaysState state.new step.state) }
 {
     match recogniser.get().state() {
         Some(known) => {
@@ -157,6 +181,8 @@ pub extern "C" fn dgt_recogniser_go_on(
 ) -> u8
     ensures place { recogniser.new.at ≡ recogniser.old.at }
     ensures status { HasStatus state.now result }
+    ensures on { result ≡ CHESS_DONE → (known : AnyState) × SaysState state.now known
+        × HasGoneOn known turned recogniser.new.inside }
     ensures refused { result ≢ CHESS_DONE → recogniser.new.inside ≡ recogniser.old.inside }
 {
     match read_parts(state) {

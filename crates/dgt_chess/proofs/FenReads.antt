@@ -1,7 +1,7 @@
 -- What was written is read back.
 use Rattle.{std.{proofs.Common.{ℕ, ◌<◌, ◌^◌, sym, subst, List, rules}, specs.Prelude.{Result}}, dgt_chess.specs.{declared.{fen.BadFen.{BadFen}, state.State.{State}}, Possible.{RefusedAreImpossible}}}
 use Rattle.dgt_chess.{specs.{Rules.{board}, Fen.{ParsesFen, ReadsBack, SameBut, SameMoves, WritesFen}}, proofs.FenLaws.{Accepted, OnePlacement, one_fen, reads_back, written_fen}}
-use Rattle.dgt_chess.proofs.SameMoves.{same_moves, shown_from, shown_same, shown_to}
+use Rattle.dgt_chess.proofs.SameMoves.{same_moves, same_parts, shown_from, shown_same, shown_to}
 
 pub read_back : OnePlacement → Accepted → RefusedAreImpossible
     → (state : State) (text : List ℕ) (result : Result State BadFen)
@@ -16,7 +16,8 @@ read_back law accepted refusal state text result few small (shown, is_shown, is)
     let P : Result State BadFen → Type 0 = λ r. ReadsBack state r in
     subst P (sym known.1) (
       same,
-      same_moves state new same (λ can. sym (shown_to state new shown is_shown square can))
+      same_moves state new (same_parts state new same)
+          (λ can. sym (shown_to state new shown is_shown square can))
           (shown_from state new shown is_shown square),
       (shown, is_shown, sym square),
     )
@@ -32,6 +33,6 @@ written_once law accepted a b text few small few' small' (s, is_shown, is) (s', 
     (written_fen accepted b s' text few' small' is') in
     let same : SameBut a b = search rules in (
       same,
-      same_moves a b same (shown_same a b s s' is_shown is_shown' parts.square)
+      same_moves a b (same_parts a b same) (shown_same a b s s' is_shown is_shown' parts.square)
           (shown_same b a s' s is_shown' is_shown (sym parts.square)),
     )

@@ -4,6 +4,15 @@ use Rattle.{std.{proofs.{Math.Logic.{∥∥₁_elim}, Common.{◌≡◌, ℕ, �
 use Rattle.{dgt_values.specs.{declared.squares.Square.{Square}, Board.{square_number}}, dgt_chess.specs.{declared.{pieces.{Colour.{Colour}, Man.{Man}}, state.State.{State}}, Attacks.{Attacks}}}
 use Rattle.dgt_chess.specs.{Attacks.{IsFree, row}, Possible.{HasPassed}, Rules.{IsPrey, LegalBy, Moves, TakesPassing, board, last_row, passed}, Fen.{CanTakePassing, IsShown, SameBut, SameMoves}}
 
+-- two states have the same parts that rules for moves read, but perhaps for the passed square
+pub record SameParts (a b : State) : Type 0 where
+  pub pieces : board a ≡ board b
+  pub turn : a.turn ≡ b.turn
+  pub rights : a.rights ≡ b.rights
+
+pub same_parts : (a b : State) → SameBut a b → SameParts a b
+same_parts a b same = search rules
+
 pub along : (P : List Piece → Colour → Type 0) (p p' : List Piece) (t t' : Colour) → p ≡ p' → t ≡ t'
     → P p t → P p' t'
 along P p p' t t' e f h = search rules
@@ -12,17 +21,17 @@ abbrev GoesOn : Man → ℕ → ℕ → List Piece → Colour → Type 0
 GoesOn man from to pieces turn = Attacks man turn pieces from to
     × (IsFree pieces to ⊎ IsPrey pieces turn to)
 
-go : (man : Man) (a b : State) → SameBut a b → (from to : ℕ) → GoesOn man from to (board a) a.turn
+go : (man : Man) (a b : State) → SameParts a b → (from to : ℕ) → GoesOn man from to (board a) a.turn
     → GoesOn man from to (board b) b.turn
 go man a b same from to h =
     along (λ l t. GoesOn man from to l t) (board a) (board b) a.turn b.turn same.pieces same.turn h
 
-pawn_to : (a b : State) → SameBut a b → (from to : ℕ)
+pawn_to : (a b : State) → SameParts a b → (from to : ℕ)
     → (TakesPassing (board a) a.turn (passed a) from to → passed a ≡ passed b)
     → Moves Man.Pawn a from to → Moves Man.Pawn b from to
 pawn_to a b same from to law h = search rules
 
-king_to : (a b : State) → SameBut a b → (from to : ℕ) → Moves Man.King a from to
+king_to : (a b : State) → SameParts a b → (from to : ℕ) → Moves Man.King a from to
     → Moves Man.King b from to
 king_to a b same from to moves = search rules
 
@@ -42,7 +51,7 @@ can_take a from to None small small' legal takes = (from, to, small, small', leg
 can_take a from to (Some man) small small' legal takes =
     absurd (∥∥₁_elim a.possible (λ x y. absurd x) (search (rules, no_promotion)))
 
-moved_to : (man : Man) (a b : State) → SameBut a b → (from to : ℕ) (promotion : Option Man)
+moved_to : (man : Man) (a b : State) → SameParts a b → (from to : ℕ) (promotion : Option Man)
     → from < 64 → to < 64
     → (CanTakePassing a → passed a ≡ passed b) → LegalBy man a from to promotion
     → Moves man b from to
@@ -59,7 +68,7 @@ moved_to Man.Queen a b same from to promotion small small' law legal =
 moved_to Man.King a b same from to promotion small small' law legal =
     king_to a b same from to legal.moves
 
-legal_to : (a b : State) → SameBut a b → (CanTakePassing a → passed a ≡ passed b)
+pub legal_to : (a b : State) → SameParts a b → (CanTakePassing a → passed a ≡ passed b)
     → (man : Man) (from to : ℕ)
     (promotion : Option Man) → from < 64 → to < 64 → LegalBy man a from to promotion
     → LegalBy man b from to promotion
@@ -70,10 +79,10 @@ legal_to a b same law man from to promotion small small' legal = record {
   safe = search rules;
 }
 
-pub back : (a b : State) → SameBut a b → SameBut b a
+pub back : (a b : State) → SameParts a b → SameParts b a
 back a b same = search rules
 
-pub same_moves : (a b : State) → SameBut a b → (CanTakePassing a → passed a ≡ passed b)
+pub same_moves : (a b : State) → SameParts a b → (CanTakePassing a → passed a ≡ passed b)
     → (CanTakePassing b → passed b ≡ passed a) → SameMoves a b
 same_moves a b same law law' = λ from to promotion small small'. (
   λ legal. (legal.0, legal_to a b same law legal.0 from to promotion small small' legal.1),

@@ -1,5 +1,5 @@
 -- How contracts see a follower, how heard bytes change it, and what it requests.
-use Rattle.std.specs.Prelude.{◌≡◌, ◌≢◌, ◌⊎◌, ◌≤◌, ◌<◌, Option, Bool, if◌then◌else◌, max, not, ◌&&◌, ◌||◌, is_some, IsSome, IsSomeAnd, IsNone, IsTrue, IsFalse, ℕ, List, [], ◌∷◌, ◌++◌, None, Some, false, Result, Ok, Err}
+use Rattle.std.specs.Prelude.{◌≡◌, ◌≢◌, ◌⊎◌, ◌≤◌, ◌<◌, ◌*◌, Option, Bool, if◌then◌else◌, max, not, ◌&&◌, ◌||◌, is_some, IsSome, IsSomeAnd, IsNone, IsTrue, IsFalse, ℕ, List, [], ◌∷◌, ◌++◌, None, Some, false, Result, Ok, Err}
 use Rattle.dgt_values.specs.Bytes.{WritesPrefix}
 use Rattle.dgt_values.specs.declared.kinds.Kind.{Kind}
 use Rattle.dgt_values.specs.declared.refusals.NoRoom.{NoRoom}
@@ -125,6 +125,22 @@ TimedStaysTimed =
     IsTimed (pace_after_event pace now awaited picture event))
     × ((what : Asking) → IsTimed (pace_after_asking what (pace_at pace now) now))
     × IsTimed (pace_disturbed pace))
+
+-- plain words are enough for that
+abbrev pub TimedIsEnough : Type 0
+TimedIsEnough =
+    (pace : PaceView) → (IsTrue pace.doubtful → IsTrue pace.disturbed ⊎ IsTrue (is_unanswered pace))
+    → OVERDUE ≤ pace.timeout → pace.timeout ≤ pace.period → IsTimed pace
+
+-- On a silent line a request is given twice as long as the one before it, and at most a period. A
+-- line is silent if nothing answered the request before, and nothing disturbed it.
+abbrev pub SilenceDoubles : Type 0
+SilenceDoubles =
+    (what : Asking) (pace : PaceView) (now : ℕ) → (what ≡ Asking.Heartbeat) ⊎ (what ≡ Asking.Anew) →
+    IsTrue (is_unanswered pace) → IsFalse pace.disturbed →
+    let timeout = (pace_after_asking what pace now).timeout in
+    (2 * pace.timeout ≤ pace.period → timeout ≡ 2 * pace.timeout)
+    × (pace.period ≤ 2 * pace.timeout → timeout ≡ pace.period)
 
 -- In doubt a request is due half a second after the last one if there was a disturbance since, and
 -- after the timeout otherwise.

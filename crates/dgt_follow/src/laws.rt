@@ -17,7 +17,7 @@ ghost use Rattle.dgt_values.specs.Equality.{CloneIsSame, EqualIsSame};
 ghost use Rattle.dgt_host.specs.Host.{HostView, Request, Sends, host_after};
 ghost use Rattle.dgt_host.specs.Confirmed.{changes, repeats};
 ghost use Rattle.dgt_follow.specs.Calls.{Call, ConfirmedOverCalls, DueAtIsFirst, OneStretchIsSeen, bytes_heard, follower_after_call, follower_after_calls, follower_asking};
-ghost use Rattle.dgt_follow.specs.Follower.{Asks, AskingsConfirmNothing, ConfirmedAsHeard, DisturbedIsAskedAnew, DoubtIsAskedAgain, FollowedInChunks, FollowerView, HasReason, OverdueIsAskedAnew, OverdueIsDoubt, RequestsAreApart, SureStaysSure, TimedStaysTimed, asking_of, clock_known, follower_after, follower_after_event, following, host_after_asking};
+ghost use Rattle.dgt_follow.specs.Follower.{Asks, AskingsConfirmNothing, ConfirmedAsHeard, DisturbedIsAskedAnew, DoubtIsAskedAgain, FollowedInChunks, FollowerView, HasReason, OverdueIsAskedAnew, OverdueIsDoubt, RequestsAreApart, SilenceDoubles, SureStaysSure, TimedIsEnough, TimedStaysTimed, asking_of, clock_known, follower_after, follower_after_event, following, host_after_asking};
 ghost use Rattle.dgt_follow.specs.Pace.{KeepsCount, PaceView, asking, asking_bytes, forgetting, is_blank, is_overdue, is_stuck, mode_command, new_pace, next_due, pace_after_asking, pace_after_event, pace_at, pace_disturbed, sent_bytes, unfinished_by};
 ghost use Rattle.dgt_follow.specs.declared.asking.Asking.{Asking};
 ghost use Rattle.dgt_follow.specs.declared.asking.UpdateMode.{UpdateMode};
@@ -142,13 +142,14 @@ pub fn overdue_is_doubt()
 /// [`Follower::ask_now`]: crate::Follower::ask_now
 pub fn doubt_is_asked_again()
     ensures timed { TimedStaysTimed }
+    ensures enough { TimedIsEnough }
     ensures again { DoubtIsAskedAgain }
     ensures apart { RequestsAreApart }
 {}
 
 /// If a follower with a period of 10,000 hears nothing after its first request at 0, it asks again
 /// at 1,000, 3,000, 7,000, 15,000, and then each period. A message at 26,000 makes it ask at once.
-/// After a disturbance the timeout is a second again.
+/// Each timeout is twice the one before, up to the period. After a disturbance it is a second.
 pub fn silence_is_asked_less()
     ensures waits { (mode : UpdateMode) →
         let asked = λ (pace : PaceView) (now : ℕ).
@@ -162,6 +163,7 @@ pub fn silence_is_asked_less()
         (next_due first ≡ Some 1000) × (next_due second ≡ Some 3000) × (next_due third ≡ Some 7000)
         × (next_due fourth ≡ Some 15000) × (next_due fifth ≡ Some 25000)
         × (next_due sixth ≡ Some 35000) }
+    ensures doubles { SilenceDoubles }
     ensures heard { (pace : PaceView) (now : ℕ) (awaited : List Kind)
         (picture : Option (List Piece)) (event : Event) →
         (pace_after_event pace now awaited picture event).timeout ≡ OVERDUE }

@@ -4,6 +4,7 @@ use Rattle.{dgt_values.specs.Board.{pieces_of}, dgt_chess.specs.{declared.{piece
 use Rattle.dgt_game.specs.{declared.{recogniser.{Recogniser.{Recogniser}, Search.{Search}}, resting.{Next.{Next}, Task.{Task}}, view.View.{View}}, Told.{as_shown}, Finding.{FindsLater, IsFound}}
 use Rattle.dgt_game.specs.{Finding.{IsSearched, SearchIsDue, WhatFollowsIsFound}, Memory.{IsTold}, Planning.{EndsSearch, HasKing, IsLostOr, Plans, RestsBefore, StaysPlaced, TaskFits}}
 use Rattle.dgt_game.{specs.{Reading.{HasSomeLines, IsLive}, Settling.{StaysShown}, Standing.{StandsAt}, Timing.{IsIdle}}, proofs.{Pictures.{king_seen, led_to}, Rests.{place_or}}}
+use Rattle.dgt_game.specs.Finding.{MovedIsSearched}
 
 -- what is looked for is found, if nothing else has changed
 pub found_by_search : (old new : Recogniser) → ((view : View) → old.view ≡ Some view → IsLive old
@@ -36,7 +37,7 @@ found_ended old new h = search rules
 -- while nothing was found, nothing but a notice waits
 pub found_later : (old new : Recogniser) → StaysPlaced old new → IsLostOr old
     → ¬ (IsTold old.memory × (old.ended ≡ None)) → IsFound new
-found_later old new (view, search, here) lost waits = grind arith
+found_later old new (view, search, here, running) lost waits = grind arith
 
 -- ---- Laws
 
@@ -74,16 +75,28 @@ what_follows_is_found self view now stands planned why found seen sure confirmed
             | inr nothing ↦ elim nothing.1.1 [
               | inl some ↦ absurd (some nowhere)
               | inr more ↦ elim more [
-                | inl hopeless ↦ elim (why view seen nowhere hopeless) [
+                | inl hopeless ↦ elim ((why view seen nowhere).0 hopeless) [
                   | inl (colour, none) ↦
                       let (count, least, most, line) = lines in
                       let (state, turned, same) = led_to count self.memory (Place.Line 0) (pieces_of
                       view.shown) line in
                       absurd (no_king view state turned colour same none)
-                  | inr other ↦ inr other
+                  | inr shows ↦ inr (inr shows)
                 ]
-                | inr done ↦ absurd (undone done.0)
+                | inr other ↦ elim other [
+                  | inl refused ↦ inr (inl ((why view seen nowhere).1 refused))
+                  | inr done ↦ absurd (undone done.0)
+                ]
               ]
             ]
           ]
     ]
+
+pub moved_is_searched : MovedIsSearched
+moved_is_searched self picture last is moved (inl behind) =
+    inl (behind, (last, is, moved last last.state.turn (inl is)))
+moved_is_searched self picture last is moved (inr none) = inr (
+  (last, is, λ colour. moved last colour (inl is)),
+  λ step known. moved step step.state.turn known,
+  none,
+)

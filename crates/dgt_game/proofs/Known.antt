@@ -2,7 +2,10 @@
 use Rattle.std.{proofs.Common.{rules, ◌≡◌, ◌++◌, ◌<◌, arith, ℕ, suc, length, slice_index_or, Bool, List, [], ◌∷◌, Option, Some}, specs.Prelude.{Contains, IfSome}}
 use Rattle.{dgt_values.specs.{declared.pieces.Piece.{Piece}, Board.{pieces_of}}, dgt_chess.specs.declared.state.State.{State}, dgt_game.specs.declared.{memory.Memory.{Memory}, node.Node.{Node}}}
 use Rattle.dgt_game.specs.{declared.{node.{Place.{Place}, Step.{Step}, Way.{Way}}, observation.Sight.{Sight}, recogniser.Recogniser.{Recogniser}, view.View.{View}}, Told.{IsShown, Told, WasShown}}
+use Rattle.{std.{proofs.Common.{None, ap, refl, subst, sym}, specs.Prelude.{option_map, slice_get}}, dgt_game.specs.{Memory.{IsKept, steps}, Recogniser.{last_state}, Waiting.{last_of}}}
 use Rattle.dgt_game.{specs.{Memory.{Chain, Holds}, Recogniser.{GoesOn, Knows, new_recogniser, shown_after}}, proofs.{Links.{was_shown}}}
+use Rattle.{std.{proofs.Common.{false}, specs.Option.{option_eq}}, dgt_chess.specs.declared.pieces.Colour.{Colour}}
+use Rattle.dgt_chess.specs.contracts.pieces.ColourPartialEq.TheImpl as derived
 
 -- all pictures of the first are among the second
 abbrev pub Within : List (List Piece) → List (List Piece) → Type 0
@@ -97,3 +100,26 @@ pub goes_on : (state : State) (is_turned : Bool) (old self : Recogniser) (node :
     → self.view ≡ old.view → GoesOn state is_turned self
 goes_on state is_turned old self node new step line back unsaid answer seen view =
     search (rules, was_shown)
+
+kept_ends : (kept : List Step) (line : List Told) → IsKept kept line
+    → option_map (λ step. step.state) (slice_get kept 0) ≡ last_state line
+kept_ends [] line h = subst (λ (l : List Told). None ≡ last_state l) (sym (h.1 refl)) refl
+kept_ends (step ∷ kept) [] h = absurd h.0
+kept_ends (step ∷ kept) (told ∷ line) h = ap (λ (t : Told). Some t.state) h.0.0
+
+-- the line that was reported ends in the last state that is kept
+pub ends_in : (self : Recogniser) (shown : List (List Piece)) (line : List Told)
+    → Knows shown line self
+    → option_map (λ step. step.state) (last_of self.memory) ≡ last_state line
+ends_in self shown line knows = kept_ends (steps self.memory.line.items) line knows.held.kept
+
+-- sides that are found equal are the same
+pub same_side : (one other : Option Colour) (same : Bool)
+    → same ≡ option_eq (derived.eq-value).it one other → ¬ (same ≡ false) → other ≡ one
+same_side None None same e is = refl
+same_side None (Some other) same e is = absurd (is e)
+same_side (Some one) None same e is = absurd (is e)
+same_side (Some Colour.White) (Some Colour.White) same e is = refl
+same_side (Some Colour.White) (Some Colour.Black) same e is = absurd (is e)
+same_side (Some Colour.Black) (Some Colour.White) same e is = absurd (is e)
+same_side (Some Colour.Black) (Some Colour.Black) same e is = refl

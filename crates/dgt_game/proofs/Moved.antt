@@ -4,6 +4,8 @@ use Rattle.{std.{specs.Prelude.{MatchOption}, proofs.lemmas.{Option.{slice_get-g
 use Rattle.{dgt_values.specs.Board.{pieces_of}, dgt_chess.specs.{declared.{pieces.{Colour.{Colour}, Man.{Man}}, state.State.{State}}, Attacks.{other, piece_of}, Rules.{board}}}
 use Rattle.dgt_game.specs.{declared.{node.{Node.{Node}, Origin.{Origin}, Step.{Step}}, view.View.{View}}, Told.{as_shown}, Memory.{steps}, Reading.{HasLineFrom, HasMoved, MovedAt, origins}}
 use Rattle.dgt_game.proofs.{Chains.{get_step}, Planning.{piece_got}}
+use Rattle.dgt_chess.proofs.Unique.{not_free}
+use Rattle.dgt_game.specs.Reading.{ManHasMoved}
 
 -- on a square only men of a side have moved
 abbrev pub Keeps : Colour → Piece → Piece → Type 0
@@ -102,3 +104,6 @@ pub pushed : (old : List Node) (new : Node) (picture : List Piece) → FollowsOn
     → FollowsOne (old ++ new ∷ []) picture
 pushed old new picture (k, node, is, known, line) =
     (k, node, get_more old (new ∷ []) k node is, known, line)
+
+pub man_has_moved : ManHasMoved
+man_has_moved picture state colour man square less h = search (rules, not_free)

@@ -7,6 +7,8 @@ use Rattle.dgt_game.specs.{declared.{node.{Returned.{Returned}, Step.{Step}}, re
 use Rattle.dgt_game.specs.{Lines.{IsLine}, Told.{as_shown}, Memory.{steps}, Reading.{HasLine, HasLineFrom, IsExplained, IsLive, IsNear, ReadsView, ShowsAt, SomeLine, EarlierAreKnown}}
 use Rattle.dgt_game.{specs.{Reading.{ElseStartIsKnown, FollowsSeen, IsKnown, IsRead, MovesAreKnown, ShowsEarlier, StartIsKnown, TwoAreKnown}, Waiting.{last_of}}, proofs.Chains.{get_step}}
 use Rattle.dgt_game.proofs.Links.{turned_back}
+use Rattle.std.proofs.Common.{subst}
+use Rattle.dgt_game.specs.Reading.{LiveForTen, MayGoOn, SeenIsFollowed, TwoToFourAreSome}
 
 pub read_at : (nodes : List Node) (k : ℕ) (node : Node) → k < length nodes
     → node ≡ slice_index_or nodes k node → slice_get nodes k ≡ Some node
@@ -273,3 +275,19 @@ else_start self view ended known = elim known [
   | inl start ↦ search (rules, turned_back)
   | inr more ↦ search rules
 ]
+
+pub live_for_ten : LiveForTen
+live_for_ten self at some over small = (
+  λ live. let may = subst (λ (o : Over). MayGoOn o self.since) over live.1 in search rules,
+  λ less. (some, rw over (search rules)),
+)
+
+pub seen_is_followed : SeenIsFollowed
+seen_is_followed self k node one new picture is known move same =
+    let line : IsLine node.step.state (one ∷ []) new = (new, move, refl) in
+    (k, node, is, known, (one ∷ [], refl, leads node.step.state (one ∷ []) new _ line same))
+
+pub two_to_four : TwoToFourAreSome
+two_to_four self step moves new picture last line same long =
+    let leads' = leads step.state moves new _ line same in
+    (length moves, search rules, search rules, (step, last, (moves, refl, leads')))

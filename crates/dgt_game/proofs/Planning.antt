@@ -1,13 +1,17 @@
 -- What is planned, and how much is left to do.
+use Rattle.std.specs.Prelude.{IfSome}
+use Rattle.dgt_game.specs.Planning.{CastleFromHome, IsSetUp}
+use Rattle.dgt_values.specs.declared.positions.Position.{Position}
 use Rattle.std.proofs.Common.{rules, ◌≡◌, ◌∙◌, ◌⊎◌, ◌<◌, ◌≤◌, ◌+◌, inl, inr, refl, sym, ap, subst, arith, ℕ, zero, suc, Bool, true, false, List, [], ◌∷◌, Option, Some, None, Result, Ok, Err, length}
 use Rattle.std.{proofs.{Common.{unwrap_or, slice_get, slice_index_or}, lemmas.Option.{get_or_from_slice_get, none-some, slice_get_read}}, specs.Prelude.{⊤, ◌↔◌, MatchOption, MatchResult, option_map}}
 use Rattle.{std.{specs.Result.{result_ok}, proofs.Math.Logic.{∥∥₁_elim}}, dgt_values.specs.{declared.pieces.Piece.{Piece}, Board.{pieces_of, square_number}}}
 use Rattle.dgt_chess.specs.{declared.{pieces.Colour.{Colour}, possible.{Impossible.{Impossible}, Rights.{Rights}}, state.State.{State}}, Attacks.{other, piece_at}, Possible.{HasKings, HasNoExtra}}
 use Rattle.{dgt_chess.specs.{Possible.{HasNoStray, HasPassed, HasRights, IsPossible, Refuses}, Rules.{board}}, dgt_game.specs.declared.event.{Event.{Event}, GameResult.{GameResult}}}
 use Rattle.dgt_game.specs.declared.{memory.Memory.{Memory}, node.{Node.{Node}, Origin.{Origin}, Place.{Place}, Step.{Step}}, recogniser.{Over.{Over}, Recogniser.{Recogniser}, Search.{Search}}}
-use Rattle.dgt_game.specs.{declared.{resting.Next.{Next}, view.View.{View}}, Told.{as_shown}, Memory.{steps}, Waiting.{last_of}, Planning.{HasNothing, IsPlanned, IsRefused, Lacks, LacksOnly}}
-use Rattle.dgt_game.specs.Planning.{LostIsReported, NothingFits, OneFits, PossibleIsHopeful, Plans, RestsAt, RestsBy, StaysPlaced, WhyHopeless, of_kings, of_place, of_search, todo}
-use Rattle.dgt_game.proofs.Chains.{get_step}
+use Rattle.dgt_game.specs.{declared.{resting.Next.{Next}, view.View.{View}}, Told.{as_shown}, Memory.{steps}, Waiting.{last_of}, Planning.{HasNothing, IsPlanned, IsRefused, Lacks, LacksSome}}
+use Rattle.dgt_game.specs.Planning.{ElseMayBegin, InTurnIsNotRefused, LiftedIsGone, LostIsReported, NothingFits, OneFits, PossibleIsHopeful}
+use Rattle.dgt_game.specs.Planning.{Plans, RestsAt, RestsBy, StaysPlaced, WhyHopeless, of_kings, of_place, of_search, todo}
+use Rattle.dgt_game.proofs.{Chains.{get_step}, Standing.{some_of}}
 
 -- ---- Pieces that are gone
 
@@ -41,30 +45,48 @@ node_of (first ∷ nodes) zero step e =
 node_of (first ∷ nodes) (suc k) step e = node_of nodes k step e
 
 abbrev pub LacksOf : View → Step → Type 0
-LacksOf view step = LacksOnly (as_shown step.is_turned (pieces_of view.shown)) step.state
+LacksOf view step = LacksSome (as_shown step.is_turned (pieces_of view.shown)) step.state
 
-pub lacks_last : (view : Option View) (shown : View) (memory : Memory) (step : Step)
-    → view ≡ Some shown → last_of memory ≡ Some step → LacksOf shown step → Lacks view memory
+pub lacks_last : (view : Option View) (shown : View) (memory : Memory) (back : ℕ)
+    → view ≡ Some shown → MatchOption (last_of memory) ⊥ (LacksOf shown) → Lacks view memory back
 unfolding Lacks
-lacks_last view shown memory step e at h = (shown, e, (step, inl at, h))
+lacks_last view shown memory back e h =
+    let (step, at, lacks) = some_of (last_of memory) (LacksOf shown) h in
+    (shown, e, (step, inl (inl at), lacks))
 
-pub lacks_seen : (view : Option View) (shown : View) (memory : Memory) (k : ℕ) (step : Step)
+pub lacks_back : (view : Option View) (shown : View) (memory : Memory) (back : ℕ)
+    → view ≡ Some shown
+    → MatchOption (slice_get (steps memory.line.items) back) ⊥ (LacksOf shown)
+    → Lacks view memory back
+unfolding Lacks
+lacks_back view shown memory back e h =
+    let (step, at, lacks) = some_of (slice_get (steps memory.line.items) back) (LacksOf shown) h in
+    (shown, e, (step, inr at, lacks))
+
+pub lacks_seen : (view : Option View) (shown : View) (memory : Memory) (back k : ℕ) (step : Step)
     → view ≡ Some shown → slice_get (steps memory.seen.items) k ≡ Some step → LacksOf shown step
-    → Lacks view memory
+    → Lacks view memory back
 unfolding Lacks
-lacks_seen view shown memory k step e at h = (shown, e, (step, inr (k, at), h))
+lacks_seen view shown memory back k step e at h = (shown, e, (step, inl (inr (k, at)), h))
 
-pub lacks_none : (view : Option View) (memory : Memory) → view ≡ None → ¬ (Lacks view memory)
+pub lacks_none : (view : Option View) (memory : Memory) (back : ℕ) → view ≡ None
+    → ¬ (Lacks view memory back)
 unfolding Lacks
-lacks_none view memory e h =
+lacks_none view memory back e h =
     absurd (subst (λ (o : Option View). MatchOption o ⊤ (λ _. ⊥)) (sym e ∙ h.1) tt)
 
-pub lacks_not : (view : Option View) (shown : View) (memory : Memory) → view ≡ Some shown
-    → ((step : Step) → last_of memory ≡ Some step → ¬ (LacksOf shown step))
+not_some : (found : Option Step) (P : Step → Type 0) (step : Step) → ¬ (MatchOption found ⊥ P)
+    → found ≡ Some step → ¬ (P step)
+not_some found P step none e h = none (rw e h)
+
+pub lacks_not : (view : Option View) (shown : View) (memory : Memory) (back : ℕ)
+    → view ≡ Some shown → ¬ (MatchOption (last_of memory) ⊥ (LacksOf shown))
+    → ¬ (MatchOption (slice_get (steps memory.line.items) back) ⊥ (LacksOf shown))
     → ((k : ℕ) (step : Step) → slice_get (steps memory.seen.items) k ≡ Some step
-    → ¬ (LacksOf shown step)) → ¬ (Lacks view memory)
+    → ¬ (LacksOf shown step)) → ¬ (Lacks view memory back)
 unfolding Lacks
-lacks_not view shown memory e last seen h = search rules
+lacks_not view shown memory back e last line seen h =
+    search (rules, not_some)
 
 -- ---- Positions that are refused
 
@@ -99,23 +121,28 @@ pub unmade : (made : Result State Impossible) (P : State → Type 0) (pieces : L
 unmade (Ok state) P pieces turn rights none h homes = absurd (none-some state (sym none))
 unmade (Err why) P pieces turn rights none h homes = refused why pieces turn rights homes h
 
+pub made_anew : (made : Result State Impossible) (position : Position) (turn : Colour)
+    (rights : Rights) (Q : Impossible → Type 0)
+    → MatchResult made (λ state. (state.position ≡ position) × (state.turn ≡ turn)
+    × (state.rights ≡ rights) × (state.passed ≡ None) × (state.half_moves ≡ 0)
+    × (state.number ≡ 1)) Q → CastleFromHome (pieces_of position) rights
+    → IfSome (result_ok made) IsSetUp
+made_anew (Ok state) position turn rights Q h homes = (h.5, h.4, h.3, rw (h.0, h.2) homes)
+made_anew (Err why) position turn rights Q h homes = tt
+
 pub either_side : (P : Colour → Type 0) → P Colour.White → P Colour.Black → (side : Colour) → P side
 either_side P side black h = search rules
 
 pub hopeless_stays : (old new : Recogniser) → StaysPlaced old new → WhyHopeless old
     → WhyHopeless new
-hopeless_stays old new (view, search, here) h =
-    λ shown e nowhere hopeless.
-    elim (h shown (sym view ∙ e) (here nowhere) (sym search ∙ hopeless)) [
-      | inl none ↦ inl none
-      | inr other ↦ inr (elim other [
-        | inl begins ↦ inl begins
-        | inr shows ↦ inr (
-          shows.0,
-          grind arith,
-        )
-      ])
-    ]
+hopeless_stays old new (view, search, here, running) h =
+    λ shown e nowhere. let (hopeless, refused) = h shown (sym view ∙ e) (here nowhere) in (
+      λ is. elim (hopeless (sym search ∙ is)) [
+        | inl none ↦ inl none
+        | inr shows ↦ inr (shows.0, grind arith)
+      ],
+      λ is. rw running (refused (sym search ∙ is)),
+    )
 
 -- ---- What is planned
 
@@ -170,19 +197,31 @@ pub lost_is_reported : LostIsReported
 lost_is_reported self why seen here done quiet on line lifted = search rules
 
 pub possible_is_hopeful : PossibleIsHopeful
-possible_is_hopeful self view why e here hopeless kings possible = elim (why view e here hopeless) [
-  | inl missing ↦ absurd (missing.1 (kings missing.0))
-  | inr other ↦ elim other [
-    | inl (running, turned, cannot) ↦
-        let (white, board, turn) = possible turned Colour.White in
-        let (black, board', turn') = possible turned Colour.Black in
-        absurd (elim (cannot Colour.White) [
-          | inl w ↦ elim (cannot Colour.Black) [
-            | inl b ↦ cc
-            | inr refused ↦ refused black board' turn'
-          ]
-          | inr refused ↦ refused white board turn
-        ])
-    | inr shows ↦ shows
-  ]
-]
+possible_is_hopeful self view why e here hopeless kings =
+    elim ((why view e here).0 hopeless) [
+      | inl missing ↦ absurd (missing.1 (kings missing.0))
+      | inr shows ↦ shows
+    ]
+
+pub in_turn_is_not_refused : InTurnIsNotRefused
+in_turn_is_not_refused self view turn why e here clock possible is =
+    let (turned, cannot) = (why view e here).1 is in
+    let (state, same, at) = possible turned in
+    elim (cannot turn) [ inl other ↦ clock other | inr refused ↦ refused state same at ]
+
+is_false : (b : Bool) → ¬ (b ≡ true) → b ≡ false
+is_false true other = absurd (other refl)
+is_false false other = refl
+
+pub else_may_begin : ElseMayBegin
+else_may_begin self = (
+  λ h may. search rules,
+  λ none. search (rules, is_false),
+)
+
+pub lifted_is_gone : LiftedIsGone
+unfolding Lacks
+lifted_is_gone self view seen each (shown, is, (step, known, lacks)) =
+    let same : shown ≡ view = cc in
+    let (only, differs) = subst (λ (v : View). LacksOf v step) same lacks in
+    search rules

@@ -3,6 +3,9 @@ use Rattle.std.{proofs.Common.{rules, ◌≡◌, ◌∙◌, ◌++◌, sym, arith
 use Rattle.dgt_game.specs.{declared.{event.{Event.{Event}, GameResult.{GameResult}}, recogniser.Recogniser.{Recogniser}}, Waiting.{CallsFollowOn, FollowOn, IsRight, RightIfAway, RunsInTurn}}
 use Rattle.dgt_game.specs.{Waiting.{events_in, has_result, is_lost}, Results.{AreLost, HasResults, LostInTurn, NotFound, NotLost, OneByKings, OneByRules, OneOther, OneResult, Stay}}
 use Rattle.dgt_chess.specs.declared.state.State.{State}
+use Rattle.std.proofs.Common.{inl, inr, ◌<◌, ◌+◌, ◌-◌, ◌/◌, ◌%◌, subst}
+use Rattle.dgt_values.specs.{declared.pieces.Piece.{Piece}, Board.{square_name}}
+use Rattle.dgt_game.specs.Results.{AreNamed, CentreIsMiddle, IsOnlyOn, KingsAreNamed, KingsOn, MatedHasLost, OthersStand}
 
 pub one_by_rules : OneByRules
 one_by_rules state h h' h'' k = search rules
@@ -155,3 +158,63 @@ stays (Event.Lost squares ∷ events) back begun =
     stays events (λ n. rest_not _ _ _ (back n)) (λ s t. rest_not _ _ _ (begun s t))
 stays (Event.Found ∷ events) back begun =
     stays events (λ n. rest_not _ _ _ (back n)) (λ s t. rest_not _ _ _ (begun s t))
+
+-- ---- How games end
+
+pub mated_has_lost : MatedHasLost
+mated_has_lost state none = search rules
+
+square_of : (square n : ℕ) → n < 64 → square_name square ≡ square_name n → square ≡ n
+square_of square n less same =
+    let files : 97 + square % 8 ≡ 97 + n % 8 = cc in
+    let ranks : 56 - square / 8 ≡ 56 - n / 8 = cc in
+    omega arith
+
+only_on : (picture : List Piece) (piece : Piece) (a n : ℕ) → n < 64
+    → square_name a ≡ square_name n → IsOnlyOn picture piece a → IsOnlyOn picture piece n
+only_on picture piece a n less same on =
+    subst (λ (k : ℕ). IsOnlyOn picture piece k) (square_of a n less same) on
+
+-- the kings' squares, with the names of two
+abbrev NamedKings : List Piece → ℕ → ℕ → Type 0
+NamedKings picture a b =
+    (white black : ℕ) × IsOnlyOn picture Piece.WhiteKing white
+    × IsOnlyOn picture Piece.BlackKing black
+    × AreNamed (square_name a) (square_name b) white black
+
+to_names : (picture : List Piece) (a b : ℕ) → KingsOn picture a b → NamedKings picture a b
+to_names picture a b (inl on) = (a, b, on.0, on.1, inl (refl, refl))
+to_names picture a b (inr on) = (b, a, on.0, on.1, inr (refl, refl))
+
+by_names : (picture : List Piece) (a b : ℕ) → a < 64 → b < 64 → NamedKings picture a b
+    → KingsOn picture a b
+by_names picture a b less more (white, black, here, there, inl (one, other)) = inl (
+  only_on picture Piece.WhiteKing white a less one here,
+  only_on picture Piece.BlackKing black b more other there,
+)
+by_names picture a b less more (white, black, here, there, inr (one, other)) = inr (
+  only_on picture Piece.WhiteKing white b more one here,
+  only_on picture Piece.BlackKing black a less other there,
+)
+
+pub kings_are_named : KingsAreNamed
+kings_are_named picture GameResult.WhiteWins =
+    (to_names picture 27 36, by_names picture 27 36 (omega arith) (omega arith))
+kings_are_named picture GameResult.BlackWins =
+    (to_names picture 28 35, by_names picture 28 35 (omega arith) (omega arith))
+kings_are_named picture GameResult.Draw = (
+  λ on. elim on [
+    | inl e ↦ let k = to_names picture 28 36 e in (k.0, k.1, k.2, k.3, inl k.4)
+    | inr d ↦ let k = to_names picture 27 35 d in (k.0, k.1, k.2, k.3, inr k.4)
+  ],
+  λ k. elim k.4 [
+    | inl e ↦ inl (by_names picture 28 36 (omega arith) (omega arith) (k.0, k.1, k.2, k.3, e))
+    | inr d ↦ inr (by_names picture 27 35 (omega arith) (omega arith) (k.0, k.1, k.2, k.3, d))
+  ],
+)
+
+pub centre_is_middle : CentreIsMiddle
+centre_is_middle square = (λ h. search rules, λ h. grind arith)
+
+pub others_stand : OthersStand
+others_stand picture pieces square outside king = search rules

@@ -1,9 +1,11 @@
 -- Over whole runs.
 use Rattle.{std.{proofs.Common.{rules, ◌≡◌, ◌++◌, inl, refl, subst, List, [], ◌∷◌, Some, None}, specs.Prelude.{IfSome, slice_get}}, dgt_values.specs.{declared.pieces.Piece.{Piece}, Board.{pieces_of}}}
 use Rattle.{dgt_chess.specs.Rules.{board}, dgt_game.specs.{declared.{node.Step.{Step}, observation.Sight.{Sight}, recogniser.Recogniser.{Recogniser}}, Memory.{IsKept, told_of}, Planning.{IsPlanned}}}
-use Rattle.dgt_game.specs.{Recogniser.{Knows, new_recogniser, shown_after}, Runs.{Call, CallsAreRuns, IsLegalAndShown, LastWasShown, NothingWasSure, Runs, ShownMayEnd, StaysSound, SureIsCounted}}
+use Rattle.dgt_game.specs.Recogniser.{Knows, new_recogniser, shown_after}
+use Rattle.dgt_game.specs.Runs.{Call, CallsAreRuns, IsLegalAndShown, LastWasShown, NothingWasSure, ReportedInOrder, Runs, ShownMayEnd, StaysSound, SureIsCounted}
 use Rattle.dgt_game.specs.{Runs.{SureIsSeen, SureWasShown, events_of, shown_in, sure_in}, Standing.{Stands}, Sure.{EndsSure, KnowsSure, WasSure, sure_after}, Told.{IsLegalTold, Told, WasShown}}
 use Rattle.dgt_game.{specs.Told.{as_shown, told_pieces}, proofs.{Known.{Within, knows_more, knows_nothing, within_cons, within_first}, Sure.{kings_sure, knows_none, knows_sure_more, shown_sure}}}
+use Rattle.dgt_game.proofs.Settling.{reported_is_shown}
 
 runs_append : (old mid new : Recogniser) (calls more : List Call) → Runs old calls mid
     → Runs mid more new → Runs old (calls ++ more) new
@@ -83,6 +85,12 @@ legal_and_shown calls ended runs =
       stands = search rules;
       seen = knows_none;
     }) runs in search (rules, ends)
+
+pub reported_in_order : ReportedInOrder
+reported_in_order calls self new view event now runs reports shown stands there seen =
+    let (line, legal, were, last) = legal_and_shown calls self runs in
+    let is = reported_is_shown self new view event now reports shown stands there seen in
+    ((line, legal, last reports.1.0), is.0, is.1)
 
 -- ---- What was shown for sure
 

@@ -1,9 +1,12 @@
 -- The board's place in what is known, and what it shows once all is reported.
-use Rattle.std.{proofs.{Common.{rules, ◌≡◌, ◌≢◌, ◌∙◌, ◌⊎◌, ◌≤◌, refl, ap, ℕ, Bool, true, false, List, length, Option, Some, None}, Math.Bridge.{le_prop}}, specs.Prelude.{IfSome, MatchOption}}
+use Rattle.std.{proofs.{Common.{rules, ◌≡◌, ◌≢◌, ◌∙◌, ◌⊎◌, ◌≤◌, refl, sym, ap, ℕ, Bool, true, false, List, length, Option, Some, None}, Math.Bridge.{le_prop}, lemmas.Bool.{false≢true}}}
+use Rattle.std.specs.Prelude.{IfSome, MatchOption}
 use Rattle.{dgt_values.specs.declared.pieces.Piece.{Piece}, dgt_chess.specs.{declared.state.State.{State}, Rules.{board}}, dgt_game.specs.declared.{memory.Memory.{Memory}, node.Node.{Node}}}
 use Rattle.dgt_game.specs.{declared.{node.{Place.{Place}, Returned.{Returned}, Step.{Step}}, recogniser.Recogniser.{Recogniser}, view.View.{View}}, Memory.{IsBefore, IsTold, step_at, steps}}
 use Rattle.dgt_game.specs.{Planning.{LacksOnly}, Reading.{Shows}, Told.{IsHeld}, Standing.{EndsHere, IsCalledFor, IsMeant, IsOpen, Lands, ShowsAs, ShowsBut, ShowsLast, Stands, StandsAt, TakesBack}}
-use Rattle.dgt_game.{specs.Waiting.{coming}, proofs.{Chains.{moved, some_below}, Links.{turned_back}}}
+use Rattle.dgt_game.specs.declared.{event.GameResult.{GameResult}, recogniser.Over.{Over}}
+use Rattle.{std.{proofs.lemmas.Option.{MatchOption-at_some}, proofs.Common.{inl, inr}, specs.Prelude.{⊤}}, dgt_game.specs.Standing.{IsAtAnswer, IsThere}}
+use Rattle.dgt_game.{specs.Waiting.{EndWaits, EndsBy, coming}, proofs.{Chains.{moved, some_below}}}
 
 -- what is so of a value is so of one that is there
 pub some_of : {X : Type 0} (o : Option X) (P : X → Type 0) → MatchOption o ⊥ P → (x : X)
@@ -14,18 +17,13 @@ pub of_some : {X : Type 0} (o : Option X) (x : X) (P : X → Type 0) → o ≡ S
     → MatchOption o ⊥ P
 of_some o x P e h = rw e h
 
--- a picture that shows a step shows all of it but pieces in hands
-pub shows_but : (view : View) (step : Step) → Shows view step → ShowsBut view step
-shows_but view step h = search (rules, turned_back)
+pub shows_as : (view : View) (node : Node) → node.is_held ≡ false → Shows view node.step
+    → ShowsAs view node
+shows_as view node whole h = (λ e. h, λ e. absurd (false≢true (sym whole ∙ e)))
 
--- whether pieces are in hands or not, no others lack
-pub but_as : (view : View) (node : Node) (held : Bool) → node.is_held ≡ held → ShowsAs view node
-    → ShowsBut view node.step
-but_as view node true e h = h.1 e
-but_as view node false e h = shows_but view node.step (h.0 e)
-
-pub shows_as : (view : View) (node : Node) → Shows view node.step → ShowsAs view node
-shows_as view node h = (λ e. h, λ e. shows_but view node.step h)
+pub lacks_as : (view : View) (node : Node) → node.is_held ≡ true → ShowsBut view node.step
+    → ShowsAs view node
+lacks_as view node held h = (λ e. absurd (false≢true (sym e ∙ held)), λ e. h)
 
 -- the line's last state once all is reported is at its first place
 pub last_at_first : (memory : Memory) → IsTold memory
@@ -46,6 +44,10 @@ tells view old new place answer ready lands near answers either called = search 
 pub if_some : {X : Type 0} (o : Option X) (P Q : X → Type 0) → IfSome o P → ((x : X) → P x → Q x)
     → IfSome o Q
 if_some o P Q x more = search rules
+
+pub both : {X : Type 0} (o : Option X) (P Q : X → Type 0) → IfSome o P → IfSome o Q
+    → IfSome o (λ x. P x × Q x)
+both o P Q p q = search rules
 
 pub returned_same : (count : ℕ) (near other : count ≤ 4) → ◌≡◌ {A = Returned} (record {
   count = count;
@@ -130,3 +132,14 @@ meant_moved self new same answer meant = search rules
 pub back_moved : (self : Recogniser) (new : Memory) → coming new ≡ coming self.memory
     → new.back ≤ self.memory.back → TakesBack 4 self → TakesBack 4 (record self { memory = new })
 back_moved self new same less back = search rules
+
+-- after a report of the line, the board stands there
+pub there_then : (self new : Recogniser) → IsMeant self → EndWaits self
+    → (new.here ≡ self.here) ⊎ IsAtAnswer new → new.view ≡ self.view → IsThere new
+there_then self new meant ends (inr answers) view = inr (inl answers)
+there_then self new (sure, inl last) ends (inl here) view = inl (here ∙ last.0)
+there_then self new (sure, inr (nowhere, next, none, (result, is))) ends (inl here) view =
+    let end = MatchOption-at_some ⊤ (λ (end : GameResult × Over). (step : Step)
+    × (coming self.memory ≡ Some step) × EndsBy end.1 self.view step end.0) (result, Over.Kings) is
+    ends in
+    inr (inr (end.0, (result, rw view end.2)))

@@ -1,7 +1,8 @@
 -- What is done whenever `due` is called.
 use Rattle.std.{proofs.{Common.{rules, ◌≡◌, ◌∙◌, ◌++◌, ◌≤◌, ◌<◌, ap, refl, sym, subst, ℕ, false, List, [], ◌∷◌, Option, Some, None}, lemmas.Option.{none-some}}, specs.Prelude.{IfSome, MatchOption}}
-use Rattle.dgt_game.specs.{declared.{event.Event.{Event}, recogniser.Recogniser.{Recogniser}, resting.Next.{Next}}, Timing.{Acts, AllDue, Calls, DoneBy, Due, HasTask, IsIdle, NoCallMatters, Tells}}
-use Rattle.dgt_game.specs.{Timing.{next_time, with_report}, Waiting.{Follows, IsQuiet, IsRight}}
+use Rattle.dgt_game.specs.{declared.{event.Event.{Event}, recogniser.Recogniser.{Recogniser}, resting.Next.{Next}}, Timing.{Acts, AllDue, Calls, DoneBy, Due, HasTask, IsIdle, NoCallMatters}}
+use Rattle.dgt_game.specs.{Recogniser.{Reports}, Timing.{DueEnds, DueIsRight}, Waiting.{Waits}}
+use Rattle.dgt_game.specs.{Timing.{Tells, next_time, with_report}, Waiting.{Follows, IsQuiet, IsRight}}
 
 -- what is done next doesn't count
 pub right_with : (self : Recogniser) (next : Option Next) (event : Event)
@@ -126,3 +127,25 @@ calls_then old mid new (now ∷ times) later early late
         ap (λ (events : List Event). events ++ late) e ∙ with_more report after late,
       ),
     )
+
+-- ---- What a call does
+
+done_right : (now : ℕ) (done : List Recogniser) (old new : Recogniser) (report : Option Event)
+    → DoneBy now done old report new → Reports old report new × (Waits old → Waits new
+    × IfSome report (λ event. IsRight new event) × Follows old report new)
+done_right now [] old new report (tells, idle) =
+    (tells.0, λ waits. ((tells.1 waits).0, (tells.1 waits).1, tells.2 waits))
+done_right now (next ∷ done) old new report (quiet, tells, has, acts, more) =
+    let later = done_right now done next new report more in
+    let still = (tells.3 refl).0 in search (rules, follows_then)
+
+pub due_is_right : DueIsRight
+due_is_right now old new report due = done_right now due.0 old new report due.1
+
+done_ends : (now : ℕ) (done : List Recogniser) (old new : Recogniser)
+    → DoneBy now done old None new → IsIdle now new
+done_ends now [] old new (tells, idle) = idle refl
+done_ends now (next ∷ done) old new h = done_ends now done next new h.4
+
+pub due_ends : DueEnds
+due_ends now old new due = done_ends now due.0 old new due.1

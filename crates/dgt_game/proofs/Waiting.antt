@@ -1,4 +1,8 @@
 -- What waits to be reported.
+use Rattle.std.specs.Prelude.{IsTrue, is_some}
+use Rattle.dgt_game.specs.Waiting.{EndsByRules, MustEnd}
+use Rattle.dgt_game.specs.declared.node.Way.{Way}
+use Rattle.dgt_chess.specs.Rules.{CanMove}
 use Rattle.std.{proofs.Common.{rules, ◌≡◌, ◌≢◌, ◌+◌, ◌-◌, ◌++◌, ◌<◌, ◌⊎◌, refl, arith, below_more, ℕ, zero, suc, Bool, true, false, List, [], ◌∷◌, Option, Some, None}, specs.Prelude.{slice_get}}
 use Rattle.{std.{specs.{Prelude.{IfSome}, Option.{option_or}}, proofs.lemmas.Option.{none-some}}, dgt_values.specs.declared.pieces.Piece.{Piece}, dgt_chess.specs.Attacks.{piece_at}}
 use Rattle.dgt_game.specs.declared.{event.{GameResult.{GameResult}, Event.{Event}}, memory.Memory.{Memory}, recogniser.{Over.{Over}, Lost.{Lost}}, node.{Node.{Node}, Step.{Step}}}
@@ -37,6 +41,30 @@ pub or_some : {X : Type 0} (a b : Option X) (P : X → Type 0) → IfSome a P �
     → IfSome (option_or a b) P
 or_some None b P h k = k
 or_some (Some x) b P h k = h
+
+pub not_found : (found : Bool) (P : Type 0) → (IsTrue found → P) → ¬ P → found ≡ false
+not_found true P h none = absurd (none (h refl))
+not_found false P h none = refl
+
+pub some_end : {X : Type 0} (found : Option X) (P : X → Type 0) (is : Bool) → is ≡ is_some found
+    → is ≡ true → IfSome found P → (x : X) × P x
+some_end None P is e has h = let wrong : ⊥ = cc in absurd wrong
+some_end (Some x) P is e has h = (x, h)
+
+-- a mate or a stalemate gives a result
+pub rules_end : (since : ℕ) (step : Step) (end : Option (GameResult × Over))
+    → IfSome end (λ end. (end.1 ≡ Over.Rules since) × ByRules step.state end.0)
+    → (end ≡ None → (step.way ≡ Way.Begun) ⊎ CanMove step.state) → MustEnd step
+    → EndsByRules since step end
+rules_end since step None is none must = search rules
+rules_end since step (Some end) is none must = is
+
+pub rules_first : (since : ℕ) (last : Option Step) (end other : Option (GameResult × Over))
+    → IfSome last (λ step. MustEnd step → EndsByRules since step end)
+    → IfSome last (λ step. MustEnd step → EndsByRules since step (option_or end other))
+rules_first since None end other h = tt
+rules_first since (Some step) None other h = λ must. absurd (h must)
+rules_first since (Some step) (Some end) other h = h
 
 -- once nothing waits, the last state is the one that was to come
 pub last_comes : (memory : Memory) → memory.back ≡ 0 → memory.unsaid.items ≡ []

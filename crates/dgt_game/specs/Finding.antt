@@ -61,8 +61,17 @@ WhatFollowsIsFound =
     → IsFound self → self.view ≡ Some view → self.is_sure ≡ true → self.is_confirmed ≡ true
     → IsIdle now self → SearchIsDue now self → IsLive self → IsSearched self (pieces_of view.shown)
     → HasSomeLines self.memory (pieces_of view.shown)
-    → (self.here ≢ Place.Nowhere) ⊎ CannotBegin view
+    → (self.here ≢ Place.Nowhere) ⊎ CannotBegin self.running view
     ⊎ ((step : Step) × ((result : GameResult) × Show self.view step result))
+
+-- **What both sides have moved to is looked for**: since each state that is known, both have. No
+-- pieces are lifted, or there was a doubt.
+abbrev pub MovedIsSearched : Type 0
+MovedIsSearched =
+    (self : Recogniser) (picture : List Piece) (last : Step) → last_of self.memory ≡ Some last
+    → ((step : Step) (colour : Colour) → IsKnown self.memory step
+    → HasMoved (as_shown step.is_turned picture) step.state colour)
+    → (self.is_behind ≡ true) ⊎ (¬ (IsLifted self)) → IsSearched self picture
 
 -- only for bodies
 

@@ -1,10 +1,11 @@
 -- What a recogniser holds, after these positions were shown and this line was reported.
-use Rattle.std.specs.Prelude.{◌≡◌, ◌≢◌, ◌<◌, ◌≤◌, ◌⊎◌, ⊤, ℕ, Bool, List, [], ◌∷◌, Option, Some, None, IfSome, length, map, slice_get}
+use Rattle.std.specs.Prelude.{◌≡◌, ◌≢◌, ◌<◌, ◌≤◌, ◌⊎◌, ◌+◌, ◌||◌, ⊤, ℕ, min, Bool, true, false, nat_lt, List, [], ◌∷◌, Option, Some, None, IfSome, length, map, slice_get}
 use Rattle.dgt_values.specs.declared.pieces.Piece.{Piece}
 use Rattle.dgt_chess.specs.declared.state.State.{State}
 use Rattle.dgt_chess.specs.Rules.{board}
 use Rattle.dgt_game.specs.declared.event.Event.{Event}
 use Rattle.dgt_game.specs.declared.node.Node.{Node}
+use Rattle.dgt_game.specs.declared.node.Origin.{Origin}
 use Rattle.dgt_game.specs.declared.node.Step.{Step}
 use Rattle.dgt_game.specs.declared.node.Way.{Way}
 use Rattle.dgt_game.specs.declared.node.Place.{Place}
@@ -156,3 +157,34 @@ Reads shown self (Reading.Held node) =
 Reads shown self (Reading.Two first second) =
     Links (step_at (steps self.line.items) (steps self.seen.items) first.step.parent) first.step
     × IsSeen shown first.step × Links (Some first.step) second.step × IsSeen shown second.step
+
+-- half-moves that weren't shown one by one
+abbrev pub is_jump : Way → Bool
+is_jump Way.Begun = false
+is_jump (Way.Made one) = false
+is_jump (Way.Unseen moves) = true
+is_jump (Way.Gap count) = true
+
+-- more than two of them, or in no certain order
+abbrev pub is_long_jump : Way → Bool
+is_long_jump Way.Begun = false
+is_long_jump (Way.Made one) = false
+is_long_jump (Way.Unseen moves) = nat_lt 2 (length (moves_of moves))
+is_long_jump (Way.Gap count) = true
+
+-- the same half-moves, in no certain order
+abbrev pub IsUnordered : Node → Node → Type 0
+IsUnordered node new =
+    (new.step ≡ record node.step { way = Way.Gap (halves_of node.step.way) })
+    × (new.jumps_far ≡ true)
+
+-- A node's path begins where it leaves the line. It jumps if one of its half-moves does.
+abbrev pub GoesOnBy : Node → Node → Type 0
+GoesOnBy from node =
+    ((k : ℕ) → node.step.parent ≡ Place.Line k → (node.origin ≡ Origin.Line k)
+    × (node.depth ≡ 1) × (node.jumps ≡ is_jump node.step.way)
+    × (node.jumps_far ≡ is_long_jump node.step.way))
+    × (((k : ℕ) → node.step.parent ≢ Place.Line k) → (node.origin ≡ from.origin)
+    × (node.depth ≡ min (from.depth + 1) 255)
+    × (node.jumps ≡ (is_jump node.step.way || from.jumps))
+    × (node.jumps_far ≡ (is_long_jump node.step.way || from.jumps_far)))

@@ -1,7 +1,8 @@
 -- What is done next with what the board shows, or why nothing is.
-use Rattle.std.specs.Prelude.{⊤, ◌≡◌, ◌≢◌, ◌<◌, ◌≤◌, ◌⊎◌, ◌+◌, ℕ, Bool, true, false, List, [], MatchOption, Option, Some, None, slice_get}
+use Rattle.std.specs.Prelude.{⊤, ◌≡◌, ◌≢◌, ◌<◌, ◌≤◌, ◌↔◌, ◌⊎◌, ◌+◌, ℕ, Bool, true, false, List, [], IsTrue, MatchOption, Option, Some, None, slice_get}
 use Rattle.dgt_values.specs.declared.pieces.Piece.{Piece}
 use Rattle.dgt_values.specs.Board.{pieces_of}
+use Rattle.dgt_chess.specs.declared.possible.Rights.{Rights}
 use Rattle.dgt_chess.specs.declared.state.State.{State}
 use Rattle.dgt_chess.specs.declared.pieces.Colour.{Colour}
 use Rattle.dgt_chess.specs.declared.pieces.Man.{Man}
@@ -29,19 +30,25 @@ LacksOnly picture state =
     (square : ℕ) → square < 64 → (piece_at picture square ≡ piece_at (board state) square)
     ⊎ (piece_at picture square ≡ Piece.Empty)
 
+-- some of the state's pieces are gone, and no others are shown
+abbrev pub LacksSome : List Piece → State → Type 0
+LacksSome picture state = LacksOnly picture state × (picture ≢ board state)
+
 -- the line's last step, or one that was seen since
 abbrev pub IsKnown : Memory → Step → Type 0
 IsKnown self step =
     (last_of self ≡ Some step) ⊎ ((k : ℕ) × (slice_get (steps self.seen.items) k ≡ Some step))
 
--- what is shown lacks only pieces of one of these
-unfoldable pub Lacks : Option View → Memory → Type 0
-Lacks view memory =
-    (shown : View) × (view ≡ Some shown) × ((step : Step) × IsKnown memory step
-    × LacksOnly (as_shown step.is_turned (pieces_of shown.shown)) step.state)
+-- What is shown lacks pieces of one of these, or of the state of the line to which the board went
+-- back, and shows all else of it.
+unfoldable pub Lacks : Option View → Memory → ℕ → Type 0
+Lacks view memory back =
+    (shown : View) × (view ≡ Some shown) × ((step : Step)
+    × (IsKnown memory step ⊎ (slice_get (steps memory.line.items) back ≡ Some step))
+    × LacksSome (as_shown step.is_turned (pieces_of shown.shown)) step.state)
 
 abbrev pub IsLifted : Recogniser → Type 0
-IsLifted self = Lacks self.view self.memory
+IsLifted self = Lacks self.view self.memory self.returned.count
 
 -- no line begins with what is shown, however long it rests: the one before has ended
 abbrev pub MayNotBegin : Recogniser → Type 0
@@ -64,6 +71,7 @@ abbrev pub IsSettled : Recogniser → Type 0
 IsSettled self =
     (self.is_next ≡ false)
     × ((self.here ≢ Place.Nowhere) ⊎ (self.search ≡ Search.Hopeless)
+    ⊎ (self.search ≡ Search.Refused)
     ⊎ ((self.search ≡ Search.Done) × (IsLifted self ⊎ MayNotBegin self)))
 
 -- nor do the kings give a result
@@ -75,16 +83,27 @@ abbrev pub search_wait : Bool → ℕ
 search_wait true = 320
 search_wait false = 1000
 
+-- How long a position that nothing leads to rests before a line begins with it: a second if there
+-- is no line yet. Else it is five if pieces were set up or something wasn't seen, or a minute.
+abbrev pub BeginsAfter : Recogniser → ℕ → Type 0
+BeginsAfter self wait =
+    (self.memory.line.items ≡ [] → wait ≡ 1000)
+    × (self.memory.line.items ≢ [] → (self.is_set_up ≡ true) ⊎ (self.is_behind ≡ true)
+    → wait ≡ 5000)
+    × (self.memory.line.items ≢ [] → self.is_set_up ≡ false → self.is_behind ≡ false
+    → (wait ≡ 60000) × (self.over ≡ Over.No))
+
 -- How long half-moves that follow a state of the line rest before they are reported: 3 s if they
 -- replace others than the last one, unless the board has gone back over these.
 abbrev pub RestsAfter : ℕ → ℕ → ℕ → Type 0
 RestsAfter base returned wait =
     (300 ≤ wait) × (wait ≤ 10000) × (2 ≤ base → base ≢ returned → 3000 ≤ wait)
 
--- the same of other half-moves, too. The start of a game needs no rest.
+-- the same of other half-moves, too. The start of a game needs no rest, and what follows it 300 ms.
 abbrev pub RestsBy : Origin → ℕ → ℕ → ℕ → Type 0
 RestsBy (Origin.Line base) depth returned wait = RestsAfter base returned wait
-RestsBy Origin.Start depth returned wait = (depth ≡ 1) ⊎ (300 ≤ wait)
+RestsBy Origin.Start depth returned wait =
+    ((depth ≡ 1) × (wait ≡ 0)) ⊎ ((depth ≢ 1) × (wait ≡ 300))
 RestsBy Origin.Shadow depth returned wait = 300 ≤ wait
 
 -- the same of what is at a place
@@ -100,7 +119,7 @@ RestsBefore self Task.EndByKings wait = wait ≡ 1000
 RestsBefore self Task.Search wait = wait ≡ search_wait self.is_behind
 RestsBefore self Task.Tell wait = RestsAt self.here self.memory self.returned.count wait
 RestsBefore self Task.Begin wait =
-    (1000 ≤ wait) × (self.memory.line.items ≢ [] → 5000 ≤ wait)
+    (1000 ≤ wait) × (self.memory.line.items ≢ [] → 5000 ≤ wait) × BeginsAfter self wait
 
 -- what is done next, and when
 abbrev pub FitsNext : Recogniser → Next → Type 0
@@ -146,20 +165,20 @@ abbrev pub CannotMove : Option Colour → Bool → View → Colour → Type 0
 CannotMove running is_turned view turn =
     (running ≡ Some (other turn)) ⊎ IsRefused (as_shown is_turned (pieces_of view.shown)) turn
 
--- no line could begin with what is shown, with the clock that ran then
-abbrev pub CannotBegin : View → Type 0
-CannotBegin view =
-    (running : Option Colour) × (is_turned : Bool)
-    × ((turn : Colour) → CannotMove running is_turned view turn)
+-- no line can begin with what is shown while this clock runs
+abbrev pub CannotBegin : Option Colour → View → Type 0
+CannotBegin running view =
+    (is_turned : Bool) × ((turn : Colour) → CannotMove running is_turned view turn)
 
--- why nothing will come of what is shown: a king is missing, no line can begin with it, or the
--- players show a result
+-- why nothing will come of what is shown: a king is missing, or the players show a result; or no
+-- line can begin with it
 abbrev pub WhyHopeless : Recogniser → Type 0
 WhyHopeless self =
     (view : View) → self.view ≡ Some view → self.here ≡ Place.Nowhere
-    → self.search ≡ Search.Hopeless
-    → ((colour : Colour) × ¬ (HasKing (pieces_of view.shown) colour)) ⊎ CannotBegin view
-    ⊎ ((step : Step) × ((result : GameResult) × Show self.view step result))
+    → (self.search ≡ Search.Hopeless
+    → ((colour : Colour) × ¬ (HasKing (pieces_of view.shown) colour))
+    ⊎ ((step : Step) × ((result : GameResult) × Show self.view step result)))
+    × (self.search ≡ Search.Refused → CannotBegin self.running view)
 
 -- ---- Laws
 
@@ -182,15 +201,45 @@ LostIsReported =
     → self.search ≡ Search.Done → IsQuiet self → self.over ≡ Over.No
     → self.memory.line.items ≢ [] → ¬ (IsLifted self) → self.lost ≡ Lost.Reported
 
--- A position that is possible with each side to move is hopeless only if the kings say so.
+-- A position with both kings is hopeless only if they show a result.
 abbrev pub PossibleIsHopeful : Type 0
 PossibleIsHopeful =
     (self : Recogniser) (view : View) → WhyHopeless self → self.view ≡ Some view
     → self.here ≡ Place.Nowhere → self.search ≡ Search.Hopeless
     → ((colour : Colour) → HasKing (pieces_of view.shown) colour)
-    → ((is_turned : Bool) (turn : Colour) → (state : State)
-    × (board state ≡ as_shown is_turned (pieces_of view.shown)) × (state.turn ≡ turn))
     → (step : Step) × ((result : GameResult) × Show self.view step result)
+
+-- It isn't refused if a side can be to move, unless the other side's clock runs.
+abbrev pub InTurnIsNotRefused : Type 0
+InTurnIsNotRefused =
+    (self : Recogniser) (view : View) (turn : Colour) → WhyHopeless self → self.view ≡ Some view
+    → self.here ≡ Place.Nowhere → self.running ≢ Some (other turn)
+    → ((is_turned : Bool) → (state : State)
+    × (board state ≡ as_shown is_turned (pieces_of view.shown)) × (state.turn ≡ turn))
+    → self.search ≢ Search.Refused
+
+-- a line may begin: there is none, the last one has no result, pieces were set up, or the board was
+-- away or in doubt
+abbrev pub MayBegin : Recogniser → Type 0
+MayBegin self =
+    (self.memory.line.items ≡ []) ⊎ (self.over ≡ Over.No) ⊎ (self.is_set_up ≡ true)
+    ⊎ (self.is_behind ≡ true)
+
+abbrev pub ElseMayBegin : Type 0
+ElseMayBegin = (self : Recogniser) → MayNotBegin self ↔ (¬ (MayBegin self))
+
+-- Nothing is lifted if each known position stands whole, or another piece is shown somewhere.
+abbrev pub LiftedIsGone : Type 0
+LiftedIsGone =
+    (self : Recogniser) (view : View) → self.view ≡ Some view
+    → ((step : Step) → IsKnown self.memory step
+    ⊎ (slice_get (steps self.memory.line.items) self.returned.count ≡ Some step)
+    → (as_shown step.is_turned (pieces_of view.shown) ≡ board step.state)
+    ⊎ ((square : ℕ) × (square < 64)
+    × (piece_at (as_shown step.is_turned (pieces_of view.shown)) square ≢ Piece.Empty)
+    × (piece_at (as_shown step.is_turned (pieces_of view.shown)) square
+    ≢ piece_at (board step.state) square)))
+    → ¬ (IsLifted self)
 
 -- only for bodies
 
@@ -207,6 +256,7 @@ of_kings false = 0
 abbrev pub of_search : Search → ℕ
 of_search Search.Waiting = 1
 of_search Search.Done = 0
+of_search Search.Refused = 0
 of_search Search.Hopeless = 0
 
 abbrev pub of_place : Bool → Place → Search → ℕ
@@ -215,6 +265,7 @@ of_place false (Place.Line k) search = 0
 of_place false (Place.Seen k) search = 0
 of_place false Place.Nowhere Search.Waiting = 1
 of_place false Place.Nowhere Search.Done = 1
+of_place false Place.Nowhere Search.Refused = 0
 of_place false Place.Nowhere Search.Hopeless = 0
 
 abbrev pub todo : Recogniser → ℕ
@@ -242,7 +293,7 @@ PlacesOr old new =
 abbrev pub StaysPlaced : Recogniser → Recogniser → Type 0
 StaysPlaced old new =
     (new.view ≡ old.view) × (new.search ≡ old.search)
-    × (new.here ≡ Place.Nowhere → old.here ≡ Place.Nowhere)
+    × (new.here ≡ Place.Nowhere → old.here ≡ Place.Nowhere) × (new.running ≡ old.running)
 
 -- the board stands at the line's last state, and no more is reported of it
 abbrev pub IsAtLast : Recogniser → Recogniser → Type 0
@@ -253,6 +304,30 @@ IsAtLast old new =
 -- nothing will come of the position, or a line has begun with it
 abbrev pub EndsSearch : Recogniser → Recogniser → Type 0
 EndsSearch old new =
-    ((new.search ≡ Search.Hopeless) × (new.has_kings ≡ old.has_kings)
+    ((new.search ≡ Search.Refused) × (new.has_kings ≡ old.has_kings)
     × (new.is_next ≡ old.is_next))
-    ⊎ IsAtLast (record old { search = Search.Hopeless }) new
+    ⊎ IsAtLast (record old { search = Search.Refused }) new
+
+-- several half-moves are looked for after 320 ms, whether or not what is shown is confirmed
+abbrev pub SearchesSoon : Recogniser → Type 0
+SearchesSoon self = TaskFits self Task.Search × (self.is_behind ≡ true)
+
+-- king and rook are at home
+abbrev pub AreHome : List Piece → Colour → ℕ → ℕ → Type 0
+AreHome pieces colour home corner =
+    (piece_at pieces home ≡ piece_of colour Man.King)
+    × (piece_at pieces corner ≡ piece_of colour Man.Rook)
+
+-- castlings are allowed wherever they are
+abbrev pub CastleFromHome : List Piece → Rights → Type 0
+CastleFromHome pieces rights =
+    (IsTrue rights.white_short ↔ AreHome pieces Colour.White 60 63)
+    × (IsTrue rights.white_long ↔ AreHome pieces Colour.White 60 56)
+    × (IsTrue rights.black_short ↔ AreHome pieces Colour.Black 4 7)
+    × (IsTrue rights.black_long ↔ AreHome pieces Colour.Black 4 0)
+
+-- pieces that were set up, before the first half-move
+abbrev pub IsSetUp : State → Type 0
+IsSetUp state =
+    (state.number ≡ 1) × (state.half_moves ≡ 0) × (state.passed ≡ None)
+    × CastleFromHome (board state) state.rights

@@ -1,5 +1,5 @@
 -- What a picture is read as.
-use Rattle.std.specs.Prelude.{◌≡◌, ◌≢◌, ◌<◌, ◌≤◌, ◌⊎◌, ◌+◌, ◌-◌, ◌^◌, ⊤, ℕ, Bool, min, List, [], Some, IfSome, length, map, slice_get}
+use Rattle.std.specs.Prelude.{◌≡◌, ◌≢◌, ◌<◌, ◌≤◌, ◌↔◌, ◌⊎◌, ◌+◌, ◌-◌, ◌^◌, ⊤, ℕ, Bool, min, List, [], Some, IfSome, length, map, slice_get}
 use Rattle.dgt_values.specs.declared.pieces.Piece.{Piece}
 use Rattle.dgt_values.specs.Board.{pieces_of}
 use Rattle.dgt_chess.specs.declared.pieces.Colour.{Colour}
@@ -17,7 +17,7 @@ use Rattle.dgt_game.specs.declared.reading.Reading.{Reading}
 use Rattle.dgt_game.specs.declared.recogniser.Over.{Over}
 use Rattle.dgt_game.specs.declared.recogniser.Recogniser.{Recogniser}
 use Rattle.dgt_game.specs.declared.view.View.{View}
-use Rattle.dgt_game.specs.Lines.{IsMove, LeadsTo}
+use Rattle.dgt_game.specs.Lines.{IsLine, IsMove, LeadsTo}
 use Rattle.dgt_game.specs.Told.{IsHeld, as_shown, told_pieces}
 use Rattle.dgt_game.specs.Memory.{IsBefore, step_at, steps, told_of}
 use Rattle.dgt_game.specs.Waiting.{last_of}
@@ -39,6 +39,7 @@ ReadsView self view (Reading.At place) = ShowsAt self view place
 ReadsView self view (Reading.New node) = Shows view node.step
 ReadsView self view (Reading.Held node) =
     IsHeld (as_shown node.step.is_turned (pieces_of view.shown)) node.step.state
+    × (as_shown node.step.is_turned (pieces_of view.shown) ≢ board node.step.state)
 ReadsView self view (Reading.Two first second) = Shows view second.step
 
 -- some legal line of this many half-moves leads to the pieces
@@ -198,3 +199,37 @@ ElseStartIsKnown =
     → IsKnown self view
     → (state : State) × (is_turned : Bool) × IsStart state
     × (as_shown is_turned (board state) ≡ pieces_of view.shown)
+
+-- After a mate or a stalemate, a line may go on with what is shown within ten seconds.
+abbrev pub LiveForTen : Type 0
+LiveForTen =
+    (self : Recogniser) (at : ℕ) → self.memory.line.items ≢ [] → self.over ≡ Over.Rules at
+    → self.since < 2 ^ 64 - 1 → IsLive self ↔ (self.since < at + 10000)
+
+-- What one legal half-move leads to from a state that was shown since, for sure or not, follows it.
+abbrev pub SeenIsFollowed : Type 0
+SeenIsFollowed =
+    (self : Memory) (k : ℕ) (node : Node) (one : Move) (new : State) (picture : List Piece)
+    → slice_get self.seen.items k ≡ Some node → node.origin ≢ Origin.Shadow
+    → IsMove node.step.state one new → board new ≡ as_shown node.step.is_turned picture
+    → FollowsSeen self picture
+
+-- A man has moved if it stands where none of its kind stood, or has left an empty square.
+abbrev pub ManHasMoved : Type 0
+ManHasMoved =
+    (picture : List Piece) (state : State) (colour : Colour) (man : Man) (square : ℕ)
+    → square < 64
+    → ((piece_at picture square ≡ piece_of colour man)
+    × (piece_at (board state) square ≢ piece_of colour man))
+    ⊎ ((piece_at picture square ≡ Piece.Empty)
+    × (piece_at (board state) square ≡ piece_of colour man))
+    → HasMoved picture state colour
+
+-- Two, three or four legal half-moves from the line's last state are several.
+abbrev pub TwoToFourAreSome : Type 0
+TwoToFourAreSome =
+    (self : Memory) (step : Step) (moves : List Move) (new : State) (picture : List Piece)
+    → last_of self ≡ Some step → IsLine step.state moves new
+    → board new ≡ as_shown step.is_turned picture
+    → (length moves ≡ 2) ⊎ (length moves ≡ 3) ⊎ (length moves ≡ 4)
+    → HasSomeLines self picture

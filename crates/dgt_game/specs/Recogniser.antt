@@ -77,6 +77,11 @@ shown_after (Sight.Sure position) shown = pieces_of position ∷ shown
 shown_after (Sight.Doubted position) shown = pieces_of position ∷ shown
 shown_after Sight.Away shown = shown
 
+-- the line's last state, if there is one
+abbrev pub last_state : List Told → Option State
+last_state [] = None
+last_state (told ∷ line) = Some told.state
+
 -- `see` takes what is seen, and the line stays as it is.
 abbrev pub Sees : Recogniser → Sight → Recogniser → Type 0
 Sees old sight new =

@@ -1,9 +1,10 @@
 -- The result of a game, by the rules or as the players show it.
-use Rattle.std.specs.Prelude.{◌≡◌, ◌≢◌, ◌<◌, ◌⊎◌, ◌++◌, ℕ, ⊤, Bool, true, false, List, [], ◌∷◌}
+use Rattle.std.specs.Prelude.{◌≡◌, ◌≢◌, ◌<◌, ◌≤◌, ◌↔◌, ◌⊎◌, ◌++◌, ℕ, ⊤, Bool, true, false, List, [], ◌∷◌, codes}
 use Rattle.dgt_values.specs.declared.pieces.Piece.{Piece}
+use Rattle.dgt_values.specs.Board.{square_name}
 use Rattle.dgt_chess.specs.declared.pieces.Colour.{Colour}
 use Rattle.dgt_chess.specs.declared.state.State.{State}
-use Rattle.dgt_chess.specs.Attacks.{IsInCheck, piece_at}
+use Rattle.dgt_chess.specs.Attacks.{IsInCheck, file, piece_at, row}
 use Rattle.dgt_chess.specs.Rules.{CanMove, board}
 use Rattle.dgt_game.specs.declared.event.Event.{Event}
 use Rattle.dgt_game.specs.declared.event.GameResult.{GameResult}
@@ -139,3 +140,49 @@ LostInTurn =
     → ¬ (AreLost was (Event.Lost first ∷ between ++ Event.Lost second ∷ []) now))
     × (NotLost between
     → ¬ (AreLost was (Event.Found ∷ between ++ Event.Found ∷ []) now))
+
+-- the other side has won
+abbrev pub lost_by : Colour → GameResult
+lost_by Colour.White = GameResult.BlackWins
+lost_by Colour.Black = GameResult.WhiteWins
+
+-- Who is mated has lost, and a stalemate is a draw.
+abbrev pub MatedHasLost : Type 0
+MatedHasLost =
+    (state : State) → ¬ (CanMove state)
+    → (IsInCheck (board state) state.turn → ByRules state (lost_by state.turn))
+    × (¬ (IsInCheck (board state) state.turn) → ByRules state GameResult.Draw)
+
+-- two squares have these names, the one or the other way round
+abbrev pub AreNamed : List ℕ → List ℕ → ℕ → ℕ → Type 0
+AreNamed one other a b =
+    ((square_name a ≡ one) × (square_name b ≡ other))
+    ⊎ ((square_name a ≡ other) × (square_name b ≡ one))
+
+-- on d5 and e4 White has won, on e5 and d4 Black; on e5 and e4, or on d5 and d4, it is a draw
+abbrev pub AreNamedFor : GameResult → ℕ → ℕ → Type 0
+AreNamedFor GameResult.WhiteWins a b = AreNamed (codes "d5") (codes "e4") a b
+AreNamedFor GameResult.BlackWins a b = AreNamed (codes "e5") (codes "d4") a b
+AreNamedFor GameResult.Draw a b =
+    AreNamed (codes "e5") (codes "e4") a b ⊎ AreNamed (codes "d5") (codes "d4") a b
+
+-- **What the kings mean**, each on one square.
+abbrev pub KingsAreNamed : Type 0
+KingsAreNamed =
+    (picture : List Piece) (result : GameResult)
+    → KingsMean picture result ↔ ((white black : ℕ) × IsOnlyOn picture Piece.WhiteKing white
+    × IsOnlyOn picture Piece.BlackKing black × AreNamedFor result white black)
+
+-- the centre is where the two files and the two ranks in the middle meet
+abbrev pub CentreIsMiddle : Type 0
+CentreIsMiddle =
+    (square : ℕ) → IsCentre square ↔ ((3 ≤ file square) × (file square ≤ 4)
+    × (3 ≤ row square) × (row square ≤ 4))
+
+-- Elsewhere each piece of the state but a king stands or is gone, and nothing else is shown.
+abbrev pub OthersStand : Type 0
+OthersStand =
+    (picture pieces : List Piece) (square : ℕ) → ¬ (IsCentre square)
+    → ¬ (IsKing (piece_at pieces square))
+    → FitsAt picture pieces square ↔ ((piece_at picture square ≡ piece_at pieces square)
+    ⊎ (piece_at picture square ≡ Piece.Empty))

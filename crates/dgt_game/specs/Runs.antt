@@ -1,5 +1,5 @@
 -- What a recogniser reports over whole runs.
-use Rattle.std.specs.Prelude.{◌≡◌, Bool, true, false, List, [], ◌∷◌, ◌++◌, Option, Some, Contains, map}
+use Rattle.std.specs.Prelude.{◌≡◌, ℕ, Bool, true, false, List, [], ◌∷◌, ◌++◌, Option, Some, Contains, map}
 use Rattle.std.specs.List.{AllByRecursion}
 use Rattle.dgt_values.specs.declared.pieces.Piece.{Piece}
 use Rattle.dgt_chess.specs.declared.state.State.{State}
@@ -12,7 +12,9 @@ use Rattle.dgt_game.specs.Memory.{IsTold}
 use Rattle.dgt_game.specs.Recogniser.{GoesOn, Knows, Reports, Sees, new_recogniser, shown_after}
 use Rattle.dgt_game.specs.Planning.{IsPlanned}
 use Rattle.dgt_game.specs.Results.{ByKings, KingsMean}
-use Rattle.dgt_game.specs.Standing.{Stands}
+use Rattle.dgt_game.specs.declared.view.View.{View}
+use Rattle.dgt_game.specs.Settling.{ReportsNow, ShowsEnd, StaysShown}
+use Rattle.dgt_game.specs.Standing.{IsThere, Stands}
 use Rattle.dgt_game.specs.Sure.{EndsSure, KnowsSure, SeesSure, StaysSure, sure_after}
 use Rattle.dgt_game.specs.Waiting.{is_sure_sight}
 
@@ -89,6 +91,17 @@ IsLegalAndShown =
     (calls : List Call) (ended : Recogniser) → Runs new_recogniser calls ended
     → (line : List Told) × IsLegalTold [] (events_of calls) line
     × IsShown (shown_in [] calls) line × (IsTold ended.memory → EndsSure (sure_in [] calls) line)
+
+-- **Reports come in the order in which positions are shown**, if nothing waited. What the line had
+-- ended with was shown for sure before. What it ends with once all is reported stands on the board
+-- now, or what answers that, or a result.
+abbrev pub ReportedInOrder : Type 0
+ReportedInOrder =
+    (calls : List Call) (self new : Recogniser) (view : View) (event : Event) (now : ℕ)
+    → Runs new_recogniser calls self → ReportsNow now self event new → StaysShown self new
+    → Stands new → IsThere new → new.view ≡ Some view
+    → ((line : List Told) × IsLegalTold [] (events_of calls) line
+    × EndsSure (sure_in [] calls) line) × (new.is_sure ≡ true) × ShowsEnd view new
 
 -- ---- What was shown for sure
 

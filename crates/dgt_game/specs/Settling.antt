@@ -1,19 +1,27 @@
 -- What is reported has rested, or what is seen next answers it.
-use Rattle.std.specs.Prelude.{◌≡◌, ◌≢◌, ◌<◌, ◌≤◌, ◌⊎◌, ◌+◌, ◌-◌, ◌^◌, ℕ, true, false, Some, MatchOption, slice_get}
+use Rattle.std.specs.Prelude.{◌≡◌, ◌≢◌, ◌<◌, ◌≤◌, ◌⊎◌, ◌+◌, ◌-◌, ◌^◌, ℕ, true, false, [], Some, MatchOption, slice_get}
+use Rattle.dgt_chess.specs.Attacks.{other}
+use Rattle.dgt_chess.specs.Rules.{CanMove}
 use Rattle.dgt_game.specs.declared.event.Event.{Event}
+use Rattle.dgt_game.specs.declared.event.GameResult.{GameResult}
 use Rattle.dgt_game.specs.declared.memory.Memory.{Memory}
 use Rattle.dgt_game.specs.declared.node.Node.{Node}
 use Rattle.dgt_game.specs.declared.node.Origin.{Origin}
 use Rattle.dgt_game.specs.declared.node.Place.{Place}
+use Rattle.dgt_game.specs.declared.node.Step.{Step}
 use Rattle.dgt_game.specs.declared.node.Way.{Way}
+use Rattle.dgt_game.specs.declared.recogniser.Lost.{Lost}
+use Rattle.dgt_game.specs.declared.recogniser.Over.{Over}
 use Rattle.dgt_game.specs.declared.recogniser.Recogniser.{Recogniser}
+use Rattle.dgt_game.specs.declared.recogniser.Search.{Search}
 use Rattle.dgt_game.specs.declared.resting.Task.{Task}
-use Rattle.dgt_game.specs.Memory.{IsTold}
+use Rattle.dgt_game.specs.Memory.{IsTold, steps}
 use Rattle.dgt_game.specs.declared.view.View.{View}
-use Rattle.dgt_game.specs.Planning.{IsLifted, IsPlanned, RestsBefore, TaskFits}
-use Rattle.dgt_game.specs.Standing.{EndsByKings, Lands, ShowsAs, ShowsLast, Stands}
-use Rattle.dgt_game.specs.Timing.{Due, IsIdle}
-use Rattle.dgt_game.specs.Waiting.{IsQuiet}
+use Rattle.dgt_game.specs.Planning.{IsLifted, IsPlanned, IsSettled, RestsBefore, TaskFits}
+use Rattle.dgt_game.specs.Standing.{IsThere, Lands, ShowsAs, ShowsBut, ShowsLast, Stands}
+use Rattle.dgt_game.specs.Timing.{Due, IsIdle, IsNext}
+use Rattle.dgt_game.specs.Reading.{Shows}
+use Rattle.dgt_game.specs.Waiting.{IsQuiet, Show, coming, last_of}
 
 -- nothing waits to be reported, or a half-move answers it
 abbrev pub IsAnswered : Memory → Type 0
@@ -23,6 +31,24 @@ IsAnswered self = IsTold self ⊎ MatchOption self.answer ⊥ (λ node. node.ste
 abbrev pub IsAt : Recogniser → Node → Type 0
 IsAt self node =
     (k : ℕ) × (self.here ≡ Place.Seen k) × (slice_get self.memory.seen.items k ≡ Some node)
+
+-- what is shown stays, whether that is sure, and since when it is shown
+abbrev pub StaysShown : Recogniser → Recogniser → Type 0
+StaysShown self new =
+    (new.view ≡ self.view) × (new.since ≡ self.since) × (new.is_sure ≡ self.is_sure)
+
+-- the board shows what follows the line's last state, but for pieces in hands
+abbrev pub ShowsAnswer : View → Memory → Type 0
+ShowsAnswer view self =
+    (step : Step) × (slice_get (steps self.seen.items) 0 ≡ Some step)
+    × (step.parent ≡ Place.Line 0) × (Shows view step ⊎ ShowsBut view step)
+
+-- The board shows what the line ends with once all is reported, or what answers that, or a result
+-- by kings.
+abbrev pub ShowsEnd : View → Recogniser → Type 0
+ShowsEnd view self =
+    Lands view self.memory ⊎ ShowsAnswer view self.memory
+    ⊎ ((step : Step) × ((result : GameResult) × Show self.view step result))
 
 -- ---- Laws
 
@@ -45,17 +71,33 @@ ReportedHasSettled =
     → (self.since + 300 ≤ now) ⊎ ((node : Node) × IsAt self node × (node.origin ≡ Origin.Start)
     × (node.depth ≡ 1))
 
--- **Nothing is taken back at once.** While more waits, the board shows for sure, and has shown for
--- as long, what it leads to, what answers that, or a result. More than four states are taken back
--- only if it shows the one before them.
+-- **What is reported is what rests.** After each report of the line, the board shows for sure, and
+-- has shown for as long, what the line ends with once all is reported, what answers that, or a
+-- result by kings. More than four states are taken back only if it shows the one before them.
 abbrev pub ReportedIsShown : Type 0
 ReportedIsShown =
     (self new : Recogniser) (view : View) (event : Event) (now : ℕ)
-    → ReportsNow now self event new → Stands new → new.view ≡ Some view → ¬ (IsTold new.memory)
-    → (new.is_sure ≡ true) × (Lands view new.memory ⊎ EndsByKings new)
+    → ReportsNow now self event new → StaysShown self new → Stands new → IsThere new
+    → new.view ≡ Some view
+    → (new.is_sure ≡ true) × ShowsEnd view new
     × ((new.memory.back ≤ 4) ⊎ ShowsLast view new.memory)
     × ((self.since + 300 ≤ now) ⊎ ((node : Node) × IsAt self node
     × (node.origin ≡ Origin.Start) × (node.depth ≡ 1)))
+
+-- **What the board stands at is reported**, and nothing else: not another line, nor less. With it
+-- the line ends once all that waits is reported.
+abbrev pub ReportedIsNext : Type 0
+ReportedIsNext =
+    (self new : Recogniser) (event : Event) (now : ℕ) (step : Step)
+    → ReportsNow now self event new → IsNext self step → coming new.memory ≡ Some step
+
+-- Once all is reported, the board shows the line's last state then, what follows it, or a result.
+abbrev pub LastIsShown : Type 0
+LastIsShown =
+    (self : Recogniser) (view : View) → ShowsEnd view self → Stands self → IsTold self.memory
+    → ((step : Step) × (last_of self.memory ≡ Some step) × Shows view step)
+    ⊎ ShowsAnswer view self.memory
+    ⊎ ((step : Step) × ((result : GameResult) × Show self.view step result))
 
 -- Half-moves that replace others than the last one have rested for three seconds, unless the board
 -- has gone back over these, or the kings give a result.
@@ -83,9 +125,70 @@ SeenIsAnswered =
     → (node : Node) × (self.memory.answer ≡ Some node) × (node.step.way ≢ Way.Begun)
     × ShowsAs view node
 
--- only for bodies
+-- A line begins with what has rested for a second, and another one with what has for five.
+abbrev pub BeginningHasRested : Type 0
+BeginningHasRested =
+    (self new : Recogniser) (event : Event) (now : ℕ) → ReportsNow now self event new
+    → self.has_kings ≡ false → TaskFits self Task.Begin
+    → (self.since + 1000 ≤ now) × (self.memory.line.items ≢ [] → self.since + 5000 ≤ now)
 
--- what is shown stays, whether that is sure, and since when it is shown
-abbrev pub StaysShown : Recogniser → Recogniser → Type 0
-StaysShown self new =
-    (new.view ≡ self.view) × (new.since ≡ self.since) × (new.is_sure ≡ self.is_sure)
+-- If there is nothing else to report, a result by kings has rested for a second.
+abbrev pub KingsHaveRested : Type 0
+KingsHaveRested =
+    (self new : Recogniser) (event : Event) (now : ℕ) → ReportsNow now self event new
+    → IsSettled self → self.since + 1000 ≤ now
+
+-- While kings give a result, sure and confirmed, something is due after a second, unless a position
+-- is to be reported or several half-moves were looked for.
+abbrev pub KingsAreTaken : Type 0
+KingsAreTaken =
+    (self : Recogniser) (now : ℕ) → IsPlanned self → self.is_sure ≡ true
+    → self.is_confirmed ≡ true → self.has_kings ≡ true → self.is_next ≡ false
+    → self.search ≢ Search.Done → IsIdle now self → now < self.since + 1000
+
+-- ---- What is remembered of what was shown
+
+-- the board has gone back to an earlier state of the line for sure
+abbrev pub HasGoneBack : ℕ → Recogniser → Type 0
+HasGoneBack count self =
+    (count ≢ 0) × (self.returned.count ≡ count) × (self.returned.is_sure ≡ true)
+
+-- The line's last state is shown for sure: what was seen since counts as not made, no king as
+-- lifted and no doubt as left, and a line that was lost is found.
+abbrev pub StandsAnew : Recogniser → Type 0
+StandsAnew self =
+    (self.memory.seen.items ≡ []) × (self.is_behind ≡ false)
+    × (self.is_white_king_lifted ≡ false) × (self.is_black_king_lifted ≡ false)
+    × (self.lost ≢ Lost.Reported)
+
+-- the board stands for sure at the line's last state
+abbrev pub IsSureOfLast : Recogniser → Type 0
+IsSureOfLast self = (self.is_sure ≡ true) × (self.here ≡ Place.Line 0)
+
+-- until it does, it is remembered that something wasn't seen
+abbrev pub RemembersDoubt : Recogniser → Recogniser → Type 0
+RemembersDoubt old new = (new.is_behind ≡ old.is_behind) ⊎ IsSureOfLast new
+
+-- Nothing leads to what is shown, though it has rested for 320 ms and no pieces are lifted. Once a
+-- line has a result, that counts only after a doubt.
+abbrev pub IsUnexplained : ℕ → Recogniser → Type 0
+IsUnexplained now self =
+    (self.here ≡ Place.Nowhere) × (self.since + 320 ≤ now)
+    × ((self.is_behind ≡ true) ⊎ (self.over ≡ Over.No)) × ¬ (IsLifted self)
+
+-- ---- How long half-moves rest
+
+-- the clock of the player who made the half-move still runs, though the other one can move
+abbrev pub IsNotPressed : Recogniser → Node → Type 0
+IsNotPressed self node =
+    (self.running ≡ Some (other node.step.state.turn)) × CanMove node.step.state
+
+-- Why half-moves after a state of the line rest for longer than 300 ms. Not all of them were shown,
+-- or they may be half of a castling, or they replace others, or a clock isn't pressed. For ten
+-- seconds they rest if they were faster than hands, or are in no certain order.
+abbrev pub CallsForRest : Recogniser → Node → ℕ → ℕ → Type 0
+CallsForRest self node base wait =
+    (wait ≡ 300) ⊎ ((wait ≡ 1000) × (node.jumps ≡ true)) ⊎ (wait ≡ 2000)
+    ⊎ ((wait ≡ 3000) × (((2 ≤ base) × (base ≢ self.returned.count))
+    ⊎ ((base ≡ 0) × IsNotPressed self node)))
+    ⊎ (wait ≡ 10000)

@@ -14,14 +14,14 @@ use Rattle.dgt_game.specs.declared.recogniser.Recogniser.{Recogniser}
 use Rattle.dgt_game.specs.declared.view.View.{View}
 use Rattle.dgt_game.specs.Told.{as_shown}
 use Rattle.dgt_game.specs.Memory.{IsBefore, IsRooted, IsTold, step_at, steps}
-use Rattle.dgt_game.specs.Planning.{CannotBegin, HasKing, IsLifted, IsPlanned, LacksOnly, WhyHopeless}
+use Rattle.dgt_game.specs.Planning.{CannotBegin, HasKing, IsLifted, IsPlanned, LacksSome, WhyHopeless}
 use Rattle.dgt_game.specs.Reading.{Shows}
 use Rattle.dgt_game.specs.Timing.{IsIdle}
 use Rattle.dgt_game.specs.Waiting.{Show, coming, last_of}
 
--- the board shows the step's position but for pieces that lack, which are in hands
+-- the board shows the step's position but for pieces that are gone, which are in hands
 abbrev pub ShowsBut : View → Step → Type 0
-ShowsBut view step = LacksOnly (as_shown step.is_turned (pieces_of view.shown)) step.state
+ShowsBut view step = LacksSome (as_shown step.is_turned (pieces_of view.shown)) step.state
 
 -- the one or the other, as the node says
 abbrev pub ShowsAs : View → Node → Type 0
@@ -62,6 +62,20 @@ StandsAt Place.Nowhere self is_next is_sure view = is_next ≡ false
 abbrev pub EndsByKings : Recogniser → Type 0
 EndsByKings self = (result : GameResult) × (self.ended ≡ Some (result, Over.Kings))
 
+-- the board stands at what follows the line's last state
+abbrev pub IsAtAnswer : Recogniser → Type 0
+IsAtAnswer self =
+    (self.here ≡ Place.Seen 0)
+    × MatchOption (slice_get (steps self.memory.seen.items) 0) ⊥
+    (λ step. step.parent ≡ Place.Line 0)
+
+-- The board stands at what the line ends with once all is reported, or at what answers that, or the
+-- players show a result by their kings.
+abbrev pub IsThere : Recogniser → Type 0
+IsThere self =
+    (self.here ≡ Place.Line 0) ⊎ IsAtAnswer self
+    ⊎ ((step : Step) × ((result : GameResult) × Show self.view step result))
+
 -- what waits to be reported is what the board shows for sure, or a result by kings
 abbrev pub IsMeant : Recogniser → Type 0
 IsMeant self =
@@ -97,7 +111,16 @@ RestIsReported =
     → self.view ≡ Some view → HasRested now self
     → ((step : Step) × (last_of self.memory ≡ Some step) × Shows view step) ⊎ IsLifted self
     ⊎ (self.over ≢ Over.No) ⊎ ((colour : Colour) × ¬ (HasKing (pieces_of view.shown) colour))
-    ⊎ CannotBegin view ⊎ ((step : Step) × ((result : GameResult) × Show self.view step result))
+    ⊎ CannotBegin self.running view
+    ⊎ ((step : Step) × ((result : GameResult) × Show self.view step result))
+
+-- **What is shown since is to be reported**, if it is shown for sure and all of it.
+abbrev pub ShownIsNext : Type 0
+ShownIsNext =
+    (self : Recogniser) (view : View) (k : ℕ) (step : Step) → Stands self → self.view ≡ Some view
+    → self.is_sure ≡ true → self.here ≡ Place.Seen k
+    → slice_get (steps self.memory.seen.items) k ≡ Some step → Shows view step
+    → self.is_next ≡ true
 
 -- **Only what the board shows is reported.** While half-moves are taken back or reported, the board
 -- shows for sure what they lead to, what answers that, or a result. More than four states are taken

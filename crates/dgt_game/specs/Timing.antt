@@ -1,10 +1,13 @@
 -- When something is done, however often `due` is called.
-use Rattle.std.specs.Prelude.{◌≡◌, ◌<◌, ◌≤◌, ◌+◌, ◌-◌, ◌^◌, ℕ, min, option_map, if◌then◌else◌, List, [], ◌∷◌, ◌++◌, Option, Some, None, IfSome, MatchOption}
+use Rattle.std.specs.Prelude.{◌≡◌, ◌≢◌, ◌<◌, ◌≤◌, ◌+◌, ◌-◌, ◌^◌, ℕ, true, false, length, min, option_map, if◌then◌else◌, List, [], ◌∷◌, ◌++◌, Option, Some, None, IfSome, MatchOption}
 use Rattle.std.specs.List.{AllByRecursion}
 use Rattle.dgt_game.specs.declared.event.Event.{Event}
 use Rattle.dgt_game.specs.declared.recogniser.Recogniser.{Recogniser}
+use Rattle.dgt_game.specs.declared.node.{Place.{Place}, Step.{Step}}
+use Rattle.dgt_game.specs.Memory.{IsRooted, IsTold, step_at, steps}
+use Rattle.dgt_game.specs.Planning.{IsPlanned}
 use Rattle.dgt_game.specs.Recogniser.{Reports, Stays}
-use Rattle.dgt_game.specs.Waiting.{Follows, IsQuiet, IsRight, Waits}
+use Rattle.dgt_game.specs.Waiting.{Follows, IsQuiet, IsRight, Waits, coming}
 
 -- when something is done next, though nothing waits to be reported
 abbrev pub next_time : Recogniser → Option ℕ
@@ -20,6 +23,18 @@ IsIdle now self = IsQuiet self × IfSome (next_time self) (λ at. now < at)
 abbrev pub HasTask : ℕ → Recogniser → Type 0
 HasTask now self = MatchOption (next_time self) ⊥ (λ at. at ≤ now)
 
+-- the board stands at a step that isn't the line's last, and it is to be reported
+abbrev pub IsNext : Recogniser → Step → Type 0
+IsNext self step =
+    (self.is_next ≡ true) × (self.has_kings ≡ false) × (self.here ≢ Place.Line 0)
+    × (step_at (steps self.memory.line.items) (steps self.memory.seen.items) self.here ≡ Some step)
+    × IsRooted (length (steps self.memory.line.items)) (steps self.memory.seen.items)
+
+-- the line ends with it once all that waits now is reported
+abbrev pub TellsNext : Recogniser → Recogniser → Type 0
+TellsNext old new =
+    (step : Step) → IsNext old step → (coming new.memory ≡ Some step) × ¬ (IsTold new.memory)
+
 -- What waits is reported. If nothing does, what is done next stays as it is.
 abbrev pub Tells : Recogniser → Option Event → Recogniser → Type 0
 Tells old report new =
@@ -28,10 +43,13 @@ Tells old report new =
     × (Waits old → Follows old report new)
     × (report ≡ None → IsQuiet new × (next_time new ≡ next_time old))
     × (IsQuiet old → (report ≡ None) × (new ≡ old))
+    × (report ≡ None → IsTold old.memory) × (coming new.memory ≡ coming old.memory)
 
 -- what is done next
 abbrev pub Acts : Recogniser → Recogniser → Type 0
-Acts old new = Stays old new × (IsQuiet old → Waits old → Waits new) × Follows old None new
+Acts old new =
+    Stays old new × (IsQuiet old → Waits old → Waits new) × Follows old None new
+    × (IsPlanned old → TellsNext old new)
 
 -- Each of these is done once it is due, until an event is reported or nothing is due.
 abbrev pub DoneBy : ℕ → List Recogniser → Recogniser → Option Event → Recogniser → Type 0
@@ -71,3 +89,14 @@ NoCallMatters =
     → AllByRecursion (λ time. time ≤ now) times → Calls times old early next
     → AllDue now next late new
     → AllDue now old (early ++ late) new
+
+-- **A call does what its steps do.** What it reports is right, and follows what was reported.
+abbrev pub DueIsRight : Type 0
+DueIsRight =
+    (now : ℕ) (old new : Recogniser) (report : Option Event) → Due now old report new
+    → Reports old report new × (Waits old → Waits new × IfSome report (λ event. IsRight new event)
+    × Follows old report new)
+
+-- If it reports nothing, nothing is due.
+abbrev pub DueEnds : Type 0
+DueEnds = (now : ℕ) (old new : Recogniser) → Due now old None new → IsIdle now new

@@ -1,5 +1,5 @@
 -- What waits to be reported of results and of lost lines.
-use Rattle.std.specs.Prelude.{◌≡◌, ◌⊎◌, ⊤, ℕ, Bool, true, false, List, [], ◌∷◌, Option, Some, None, IfSome, slice_get}
+use Rattle.std.specs.Prelude.{◌≡◌, ◌≢◌, ◌⊎◌, ⊤, ℕ, Bool, true, false, List, [], ◌∷◌, Option, Some, None, IfSome, MatchOption, slice_get}
 use Rattle.dgt_values.specs.Board.{DifferingSquares, pieces_of}
 use Rattle.dgt_chess.specs.Rules.{CanMove, board}
 use Rattle.dgt_game.specs.declared.event.Event.{Event}
@@ -7,6 +7,7 @@ use Rattle.dgt_game.specs.declared.event.GameResult.{GameResult}
 use Rattle.dgt_game.specs.declared.memory.Memory.{Memory}
 use Rattle.dgt_game.specs.declared.observation.Sight.{Sight}
 use Rattle.dgt_game.specs.declared.node.Step.{Step}
+use Rattle.dgt_game.specs.declared.node.Way.{Way}
 use Rattle.dgt_game.specs.declared.recogniser.Lost.{Lost}
 use Rattle.dgt_game.specs.declared.recogniser.Over.{Over}
 use Rattle.dgt_game.specs.declared.recogniser.Recogniser.{Recogniser}
@@ -138,12 +139,13 @@ is_sure_sight Sight.Away = false
 
 -- only for bodies
 
--- results and the time are as they were, and what waits of a lost line is right
+-- results and the times are as they were, and what waits of a lost line is right
 abbrev pub Keeps : Recogniser → Recogniser → Type 0
 Keeps self new =
     (new.view ≡ self.view) × (new.over ≡ self.over) × (new.ended ≡ self.ended)
     × (is_lost new.lost ≡ is_lost self.lost) × (LostWaits self → LostWaits new)
     × (new.since ≡ self.since) × (new.is_sure ≡ self.is_sure)
+    × (new.sure_since ≡ self.sure_since) × (new.changed ≡ self.changed)
 
 -- an event of the line
 abbrev pub IsOfLine : Event → Type 0
@@ -151,3 +153,19 @@ IsOfLine (Event.Ended result) = ⊥
 IsOfLine (Event.Lost squares) = ⊥
 IsOfLine Event.Found = ⊥
 IsOfLine event = ⊤
+
+-- both kings were lifted, and what the board shows means a result
+abbrev pub BothKingsMean : Recogniser → View → Type 0
+BothKingsMean self view =
+    (self.is_white_king_lifted ≡ true) × (self.is_black_king_lifted ≡ true)
+    × ((step : Step) × ((result : GameResult)
+    × ByKings (as_shown step.is_turned (pieces_of view.shown)) step.state result))
+
+-- a line has come to a state with no legal move
+abbrev pub MustEnd : Step → Type 0
+MustEnd step = (step.way ≢ Way.Begun) × ¬ (CanMove step.state)
+
+-- it is a mate or a stalemate
+abbrev pub EndsByRules : ℕ → Step → Option (GameResult × Over) → Type 0
+EndsByRules since step end =
+    MatchOption end ⊥ (λ end. (end.1 ≡ Over.Rules since) × ByRules step.state end.0)

@@ -75,8 +75,8 @@ pub enum Event {
     /// Half-moves, of which only the position after the last was shown: the only legal line of as
     /// many that leads there.
     Unseen(Moves),
-    /// As many half-moves, of which only the position after the last was shown. Several legal
-    /// lines lead there, so they aren't known. The state is the one after one of these lines.
+    /// As many half-moves, of which only the position after the last was shown. Some legal line of
+    /// as many leads to this state, but it isn't known which was made.
     Gap(State, u8),
     /// As many half-moves are taken back: those of the last `Made`, `Unseen` or `Gap`.
     Back(u8),

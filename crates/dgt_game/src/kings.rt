@@ -1,6 +1,6 @@
 //! Results that the players show by their kings, on squares in the centre.
 
-ghost use Rattle.std.specs.Prelude.{ℕ, false, ◌≡◌, ◌<◌, ◌≤◌, List, [], None, Some, Contains, IfSome, MatchOption, IsTrue, length, true};
+ghost use Rattle.std.specs.Prelude.{ℕ, false, ◌≡◌, ◌↔◌, ◌⊎◌, ◌<◌, ◌≤◌, List, [], None, Some, Contains, IfSome, MatchOption, IsTrue, length, true};
 ghost use Rattle.dgt_values.specs.declared.pieces.Piece.{Piece};
 ghost use Rattle.dgt_values.specs.Board.{pieces_of};
 ghost use Rattle.dgt_chess.specs.Rules.{board};
@@ -24,7 +24,7 @@ impl Recogniser {
     ghost use Rattle.dgt_game.specs.Sure.{WasSure, WereSure};
     ghost use Rattle.dgt_game.specs.Finding.{FindsLater};
     ghost use Rattle.dgt_game.specs.Planning.{AddsNone, todo, IsLostOr, WhyHopeless};
-    ghost use Rattle.dgt_game.specs.Waiting.{Follows, IsQuiet, Keeps, Waits, coming};
+    ghost use Rattle.dgt_game.specs.Waiting.{BothKingsMean, Follows, IsQuiet, Keeps, Waits, coming};
 
     /// Looks whether both kings were lifted since the line's last state, and stand on squares that
     /// give a result, while everything else stands as in a known state.
@@ -35,6 +35,10 @@ impl Recogniser {
         ensures lost { self.new.lost ≡ self.old.lost }
         ensures search { self.new.search ≡ self.old.search }
         ensures returned { self.new.returned ≡ self.old.returned }
+        ensures set_up { self.new.is_set_up ≡ self.old.is_set_up }
+        ensures behind { self.new.is_behind ≡ self.old.is_behind }
+        ensures kings { self.new.has_kings ≡ true
+            → (self.old.has_kings ≡ true) ⊎ BothKingsMean self.new view.now }
     {
         let Some(last) = self.memory.line.get(0) else {
             return;
@@ -157,9 +161,12 @@ impl Recogniser {
 // The result that kings on these squares give: on e4 and d5 White has won, on d4 and e5 Black;
 // both on one file are a draw.
 fn result_of(white: u8, black: u8) -> Option<GameResult>
-    ensures { (picture : List Piece) → IsOnlyOn picture Piece.WhiteKing white
+    ensures mean { (picture : List Piece) → IsOnlyOn picture Piece.WhiteKing white
         → IsOnlyOn picture Piece.BlackKing black
         → IfSome result (λ end. KingsMean picture end) }
+    ensures all { (picture : List Piece) (end : GameResult)
+        → IsOnlyOn picture Piece.WhiteKing white → IsOnlyOn picture Piece.BlackKing black
+        → KingsMean picture end → result ≡ Some end }
 {
     match (white, black) {
         (27, 36) | (36, 27) => Some(GameResult::WhiteWins),
@@ -191,7 +198,7 @@ fn stands(view: &View, node: &Node) -> bool
 
 fn fits(shown: &Position, position: &Position, at: u8) -> bool
     requires { at < 64 }
-    ensures { IsTrue result → FitsAt (pieces_of shown.now) (pieces_of position.now) at }
+    ensures { IsTrue result ↔ FitsAt (pieces_of shown.now) (pieces_of position.now) at }
 {
     let square = Square::from_small(at);
     let piece = position.get(square);
@@ -201,7 +208,7 @@ fn fits(shown: &Position, position: &Position, at: u8) -> bool
 }
 
 fn is_centre(at: u8) -> bool
-    ensures { IsTrue result → IsCentre at }
+    ensures { IsTrue result ↔ IsCentre at }
 {
     at == 27 || at == 28 || at == 35 || at == 36
 }

@@ -1,25 +1,36 @@
 //! Laws of a recogniser. Each function does nothing at run time: its contract states the facts.
 
-ghost use Rattle.std.specs.Prelude.{◌≡◌, ◌<◌, ◌≤◌, ◌+◌, ◌-◌, ◌^◌, ℕ, Bool, true, false, List, [], ◌∷◌, ◌++◌, Option, Some, Contains};
+ghost use Rattle.std.specs.Prelude.{◌≡◌, ◌≢◌, ◌<◌, ◌≤◌, ◌+◌, ◌-◌, ◌^◌, ℕ, Bool, true, false, List, [], ◌∷◌, ◌++◌, Option, Some, Contains};
+ghost use Rattle.dgt_values.specs.declared.pieces.Piece.{Piece};
 ghost use Rattle.dgt_chess.specs.declared.state.State.{State};
 ghost use Rattle.dgt_game.specs.declared.event.Event.{Event};
 ghost use Rattle.dgt_game.specs.declared.recogniser.Recogniser.{Recogniser};
-ghost use Rattle.dgt_game.specs.Finding.{IsFound, SearchIsDue, WhatFollowsIsFound};
+ghost use Rattle.dgt_game.specs.Finding.{IsFound, MovedIsSearched, SearchIsDue, WhatFollowsIsFound};
 ghost use Rattle.dgt_game.specs.Laws.{BackIsCounted, JoinedIsOne, LegalIsJoined, NoneAndOne, OneIsShown, OneLine, OthersAreHeld, SeveralAreShown, ShownIsHeld, StartIsShown, UnseenIsOnly};
-ghost use Rattle.dgt_game.specs.Planning.{IsLostOr, IsPlanned, LostIsReported, NothingFits, OneFits, PossibleIsHopeful, WhyHopeless};
-ghost use Rattle.dgt_game.specs.Reading.{EarlierAreKnown, ElseStartIsKnown, LiveHasBegun, MovesAreKnown, StartIsKnown, TwoAreKnown, IsExplained};
-ghost use Rattle.dgt_game.specs.Recogniser.{new_recogniser};
-ghost use Rattle.dgt_game.specs.Results.{LostInTurn, NotFound, NotLost, OneByKings, OneByRules, OneOther, OneResult, Stay};
-ghost use Rattle.dgt_game.specs.Runs.{CallsAreRuns, IsLegalAndShown, LastWasShown, NothingWasSure, ShownMayEnd, SureIsCounted, SureIsSeen, SureWasShown};
-ghost use Rattle.dgt_game.specs.Settling.{NothingWaitsLong, ReplacingHasRested, ReportedHasRested, ReportedHasSettled, ReportedIsShown, ReportsNow, SeenIsAnswered};
-ghost use Rattle.dgt_game.specs.Standing.{HasRested, OnlyShownIsReported, RestIsReported, Stands};
+ghost use Rattle.dgt_game.specs.Planning.{ElseMayBegin, InTurnIsNotRefused, IsLostOr, IsPlanned, LiftedIsGone, LostIsReported, NothingFits, OneFits, PossibleIsHopeful, WhyHopeless};
+ghost use Rattle.dgt_game.specs.Reading.{EarlierAreKnown, ElseStartIsKnown, IsExplained, LiveForTen, LiveHasBegun, ManHasMoved, MovesAreKnown, SeenIsFollowed, StartIsKnown, TwoAreKnown, TwoToFourAreSome};
+ghost use Rattle.dgt_game.specs.declared.node.{Place.{Place}, Step.{Step}};
+ghost use Rattle.dgt_game.specs.Memory.{step_at, steps};
+ghost use Rattle.dgt_game.specs.Recogniser.{Knows, new_recogniser};
+ghost use Rattle.dgt_game.specs.Results.{CentreIsMiddle, KingsAreNamed, LostInTurn, MatedHasLost, NotFound, NotLost, OneByKings, OneByRules, OneOther, OneResult, OthersStand, Stay};
+ghost use Rattle.dgt_game.specs.Runs.{CallsAreRuns, IsLegalAndShown, LastWasShown, NothingWasSure, ReportedInOrder, ShownMayEnd, SureIsCounted, SureIsSeen, SureWasShown};
+ghost use Rattle.dgt_game.specs.Settling.{BeginningHasRested, KingsAreTaken, KingsHaveRested, LastIsShown, NothingWaitsLong, ReplacingHasRested, ReportedHasRested, ReportedHasSettled, ReportedIsNext, ReportedIsShown, ReportsNow, SeenIsAnswered};
+ghost use Rattle.dgt_game.specs.Standing.{HasRested, OnlyShownIsReported, RestIsReported, ShownIsNext, Stands};
 ghost use Rattle.dgt_game.specs.Sure.{KnowsSure};
-ghost use Rattle.dgt_game.specs.Timing.{Calls, Due, IsIdle, NoCallMatters, with_report};
+ghost use Rattle.dgt_game.specs.Timing.{Calls, Due, DueEnds, DueIsRight, IsIdle, IsNext, NoCallMatters, with_report};
+ghost use Rattle.dgt_game.specs.Told.{Told};
 ghost use Rattle.dgt_game.specs.Waiting.{CallsFollowOn, IsQuiet, RightIfAway, RunsInTurn, Waits};
+
+use crate::event::GAP;
+use crate::times::{
+    AT_ONCE, CASTLE, FINAL, FIRST, GLANCE, HANDS, JUMP, KEPT, KINGS, LONG, NEAR, NEW, NEW_STILL,
+    PRESS, REPLACE, ROOTS, SEEN, SETTLE, SHADOW,
+};
 
 /// What is reported is legal and was shown, over whole runs.
 pub fn reports_are_legal()
     ensures are { IsLegalAndShown }
+    ensures order { ReportedInOrder }
     ensures runs { CallsAreRuns }
 {}
 
@@ -92,12 +103,14 @@ pub fn what_plans_say()
     ensures nothing { NothingFits }
     ensures lost { LostIsReported }
     ensures hopeful { PossibleIsHopeful }
+    ensures turn { InTurnIsNotRefused }
 {}
 
 /// What rests on the board is reported, and only what it shows.
 pub fn what_rests_is_reported()
     ensures rest { RestIsReported }
     ensures only { OnlyShownIsReported }
+    ensures next { ShownIsNext }
     ensures enough { (self : Recogniser) (now : ℕ) → self.is_sure ≡ true
         → self.is_confirmed ≡ true → self.since + 60000 ≤ now → IsIdle now self
         → HasRested now self }
@@ -108,12 +121,18 @@ pub fn what_is_reported_has_rested()
     ensures rested { ReportedHasRested }
     ensures settled { ReportedHasSettled }
     ensures shown { ReportedIsShown }
+    ensures next { ReportedIsNext }
+    ensures last { LastIsShown }
     ensures replacing { ReplacingHasRested }
     ensures long { NothingWaitsLong }
     ensures answered { SeenIsAnswered }
     ensures enough { (self new : Recogniser) (event : Event) (now : ℕ) → IsPlanned self
         → IsQuiet self → now < 2 ^ 64 - 1 → Due now self (Some event) new
         → ReportsNow now self event new }
+    ensures at { (self : Recogniser) (step : Step) (shown : List (List Piece)) (line : List Told)
+        → Knows shown line self → self.is_next ≡ true → self.has_kings ≡ false
+        → self.here ≢ Place.Line 0 → step_at (steps self.memory.line.items)
+        (steps self.memory.seen.items) self.here ≡ Some step → IsNext self step }
 {}
 
 /// What several half-moves lead to is found.
@@ -144,4 +163,60 @@ pub fn what_is_known()
     ensures start { StartIsKnown }
     ensures others { ElseStartIsKnown }
     ensures live { LiveHasBegun }
+{}
+
+/// The times in milliseconds and the other limits, by their numbers.
+pub fn limits()
+    ensures settle { SETTLE ≡ 300 }
+    ensures jump { JUMP ≡ 1000 }
+    ensures castle { CASTLE ≡ 2000 }
+    ensures replace { REPLACE ≡ 3000 }
+    ensures press { PRESS ≡ 3000 }
+    ensures at_once { AT_ONCE ≡ 10000 }
+    ensures hands { HANDS ≡ 100 }
+    ensures new { NEW ≡ 5000 }
+    ensures new_still { NEW_STILL ≡ 60000 }
+    ensures first { FIRST ≡ 1000 }
+    ensures glance { GLANCE ≡ 320 }
+    ensures kings { KINGS ≡ 1000 }
+    ensures is_final { FINAL ≡ 10000 }
+    ensures shadow { SHADOW ≡ 3 }
+    ensures near { NEAR ≡ 4 }
+    ensures long { LONG ≡ 8 }
+    ensures kept { KEPT ≡ 16 }
+    ensures seen { SEEN ≡ 24 }
+    ensures roots { ROOTS ≡ 8 }
+    ensures gap { GAP ≡ 4 }
+{}
+
+/// How games end, by the rules and by kings.
+pub fn how_games_end()
+    ensures mated { MatedHasLost }
+    ensures kings { KingsAreNamed }
+    ensures centre { CentreIsMiddle }
+    ensures others { OthersStand }
+    ensures live { LiveForTen }
+{}
+
+/// When a line begins or kings give a result, and after which rest.
+pub fn when_lines_begin()
+    ensures may { ElseMayBegin }
+    ensures rested { BeginningHasRested }
+    ensures kings { KingsHaveRested }
+    ensures taken { KingsAreTaken }
+{}
+
+/// Which men have moved, which pieces are lifted, and what follows what was seen.
+pub fn what_has_moved()
+    ensures man { ManHasMoved }
+    ensures searched { MovedIsSearched }
+    ensures several { TwoToFourAreSome }
+    ensures seen { SeenIsFollowed }
+    ensures lifted { LiftedIsGone }
+{}
+
+/// What a call of `due` does.
+pub fn what_due_does()
+    ensures right { DueIsRight }
+    ensures idle { DueEnds }
 {}

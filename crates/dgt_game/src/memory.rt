@@ -105,6 +105,8 @@ impl Memory {
         ensures seen { (picture : List Piece) → FollowsSeen self.old picture
             → FollowsSeen self.new picture }
         ensures sure { LeavesSure self.old self.new }
+        ensures left { (k : ℕ) → place ≡ Place.Seen k → IfSome (slice_get self.old.seen.items k)
+            (λ node. slice_get self.new.seen.items k ≡ Some (record node { left = now })) }
     {
         match place {
             Place::Line(k) => set_left(&mut self.line, k, now),
@@ -313,6 +315,10 @@ impl Memory {
             → IsRooted (length (steps self.old.line.items)) (steps self.old.seen.items)
             → step_at (steps self.old.line.items) (steps self.old.seen.items) place ≡ Some step
             → place ≢ Place.Line 0 → self.new.answer ≡ answer }
+        ensures news { (step : Step)
+            → IsRooted (length (steps self.old.line.items)) (steps self.old.seen.items)
+            → step_at (steps self.old.line.items) (steps self.old.seen.items) place ≡ Some step
+            → place ≢ Place.Line 0 → ¬ (IsTold self.new) }
         ensures idle { IsTold self.new → self.new.answer ≡ None }
         ensures cleared { self.new.seen.items ≡ [] }
         ensures either { (self.new.answer ≡ answer) ⊎ (self.new.answer ≡ None) }
@@ -515,6 +521,8 @@ impl Memory {
             × (new.step.state ≡ node.step.state) × (new.step.is_turned ≡ node.step.is_turned)
             × (new.step.way ≡ node.step.way) × (new.is_held ≡ node.is_held)
             × (node.step.way ≡ Way.Begun → new.origin ≡ node.origin)) }
+        ensures follows { IfSome result (λ new. (self.new.seen.items ≡ new ∷ [])
+            × (new.step.parent ≡ Place.Line 0)) }
         ensures sure { LeavesSure self.old self.new }
     {
         let Some(node) = self.answer.take() else {
@@ -532,6 +540,8 @@ impl Memory {
 fn set_left<const ROOM: usize>(nodes: &mut ArrayVec<Node, ROOM>, k: usize, now: u64)
     ensures steps { steps nodes.new.items ≡ steps nodes.old.items }
     ensures origins { origins nodes.new.items ≡ origins nodes.old.items }
+    ensures left { IfSome (slice_get nodes.old.items k)
+        (λ node. slice_get nodes.new.items k ≡ Some (record node { left = now })) }
     ensures sure { (sure : List (List Piece)) → AreMarked sure nodes.old.items
         → AreMarked sure nodes.new.items }
 {

@@ -1,7 +1,8 @@
 //! States that the board has shown, and how they follow each other.
 
-ghost use Rattle.std.specs.Prelude.{◌≡◌, ◌≤◌};
-ghost use Rattle.dgt_game.specs.Memory.{halves_of};
+ghost use Rattle.std.specs.Prelude.{false, ◌≡◌, ◌≢◌, ◌≤◌, ◌-◌};
+ghost use Rattle.dgt_chess.specs.Attacks.{other};
+ghost use Rattle.dgt_game.specs.Memory.{halves_of, is_jump, is_long_jump};
 
 use crate::event::Moves;
 use dgt_chess::{Colour, Move, State};
@@ -28,7 +29,9 @@ impl Way {
         }
     }
 
-    pub(crate) fn is_jump(self) -> bool {
+    pub(crate) fn is_jump(self) -> bool
+        ensures { result ≡ is_jump self }
+    {
         match self {
             Way::Unseen(_) | Way::Gap(_) => true,
             _ => false,
@@ -36,7 +39,9 @@ impl Way {
     }
 
     /// Whether half-moves lie between that are in no certain order, or more than one of them.
-    pub(crate) fn is_long_jump(self) -> bool {
+    pub(crate) fn is_long_jump(self) -> bool
+        ensures { result ≡ is_long_jump self }
+    {
         match self {
             Way::Unseen(moves) => moves.len() > 2,
             Way::Gap(_) => true,
@@ -111,12 +116,17 @@ pub(crate) struct Node {
 impl Node {
     /// The first node of a line.
     pub(crate) fn root(state: State, is_turned: bool, origin: Origin, at: u64) -> Self
-        ensures { result.step ≡ record {
+        ensures step { result.step ≡ record {
           state = state;
           is_turned = is_turned;
           way = Way.Begun;
           parent = Place.Nowhere;
         } }
+        ensures whole { result.is_held ≡ false }
+        ensures first { (result.origin ≡ origin) × (result.depth ≡ 1) }
+        ensures times { (result.at ≡ at) × (result.left ≡ at) }
+        ensures plain { (result.is_sure ≡ false) × (result.is_quick ≡ false)
+            × (result.was_behind ≡ false) × (result.jumps ≡ false) × (result.jumps_far ≡ false) }
     {
         Node {
             step: Step {
@@ -149,6 +159,10 @@ impl Node {
           way = self.now.step.way;
           parent = Place.Line 0;
         } }
+        ensures anew { self.now.step.way ≢ Way.Begun → (result.origin ≡ Origin.Line 0)
+            × (result.depth ≡ 1) × (result.jumps ≡ is_jump self.now.step.way)
+            × (result.jumps_far ≡ is_long_jump self.now.step.way) }
+        ensures times { (result.at ≡ self.now.at) × (result.left ≡ self.now.left) }
     {
         let mut new = *self;
         new.step.parent = Place::Line(0);
@@ -162,12 +176,16 @@ impl Node {
     }
 
     /// The player who made the last half-move.
-    pub(crate) fn mover(&self) -> Colour {
+    pub(crate) fn mover(&self) -> Colour
+        ensures { result ≡ other self.now.step.state.turn }
+    {
         self.step.state.turn().other()
     }
 
     /// The time for which it was shown.
-    pub(crate) fn rested(&self) -> u64 {
+    pub(crate) fn rested(&self) -> u64
+        ensures { result ≡ self.now.left - self.now.at }
+    {
         self.left.saturating_sub(self.at)
     }
 }

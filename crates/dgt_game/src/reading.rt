@@ -1,6 +1,6 @@
 //! What a picture means: the likeliest of the few half-moves that lead to it.
 
-ghost use Rattle.std.specs.Prelude.{ℕ, ◌≡◌, ◌↔◌, ◌≤◌, ◌⊎◌, List, Option, None, Some, IfSome, IsSome, IsTrue, Contains, false, length, slice_get, ◌≢◌, MatchOption, true};
+ghost use Rattle.std.specs.Prelude.{ℕ, ◌≡◌, ◌↔◌, ◌<◌, ◌≤◌, ◌+◌, ◌-◌, ◌^◌, ◌⊎◌, List, Option, None, Some, IfSome, IsSome, IsTrue, Contains, false, length, slice_get, ◌≢◌, MatchOption, true};
 ghost use Rattle.dgt_values.specs.declared.pieces.Piece.{Piece};
 ghost use Rattle.dgt_values.specs.Board.{pieces_of};
 ghost use Rattle.dgt_chess.specs.Rules.{board};
@@ -8,8 +8,8 @@ ghost use Rattle.dgt_chess.specs.declared.state.State.{State};
 ghost use Rattle.dgt_game.specs.Lines.{IsLine, IsOnly, moves_of};
 ghost use Rattle.dgt_chess.specs.declared.pieces.Man.{Man};
 ghost use Rattle.dgt_game.specs.declared.node.Step.{Step};
-ghost use Rattle.dgt_game.specs.Planning.{LacksOnly};
-ghost use Rattle.dgt_chess.specs.Attacks.{piece_of};
+ghost use Rattle.dgt_game.specs.Planning.{LacksOnly, LacksSome};
+ghost use Rattle.dgt_chess.specs.Attacks.{other, piece_of};
 ghost use Rattle.dgt_game.specs.Told.{IsHeld, Told, told_pieces};
 ghost use Rattle.dgt_game.specs.Memory.{By, halves_of, told_of};
 ghost use Rattle.dgt_game.specs.declared.node.Origin.{Origin};
@@ -40,7 +40,7 @@ pub(crate) enum Reading {
 }
 
 impl Recogniser {
-    ghost use Rattle.dgt_game.specs.Memory.{Fits, FitsBy, Holds, Links, Reads, step_at, steps};
+    ghost use Rattle.dgt_game.specs.Memory.{Fits, FitsBy, GoesOnBy, Holds, Links, Reads, step_at, steps};
     ghost use Rattle.dgt_game.specs.Reading.{HasLine, HasLineFrom, HasRoom, IsLive, IsNear, IsRead, IsRoomFor, ReadsView, Shows, ShowsAt, SomeLine, FollowsSeen, IsReplaced, ShowsEarlier, ShowsStart};
     ghost use Rattle.dgt_game.specs.Sure.{MarksStart};
     ghost use Rattle.dgt_game.specs.Waiting.{last_of};
@@ -133,6 +133,8 @@ impl Recogniser {
         ensures at { IfSome result (λ k. ShowsAt self.now.memory view.now (Place.Line k)) }
         ensures reads { IsLive self.now → ShowsEarlier self.now.memory view.now
             → IsSome result }
+        ensures far { (k : ℕ) → self.now.is_behind ≡ false → IsLive self.now → 1 ≤ k
+            → ShowsAt self.now.memory view.now (Place.Line k) → IsSome result }
     {
         let k = self.earlier(view)?;
         if k > NEAR && self.is_behind && self.from_start(view).is_some() {
@@ -146,6 +148,9 @@ impl Recogniser {
         ensures at { IfSome result (λ k. ShowsAt self.now.memory view.now (Place.Line k)) }
         ensures reads { IsLive self.now → ShowsEarlier self.now.memory view.now
             → MatchOption result ⊥ (λ k. k ≤ 4) }
+        ensures last { (k : ℕ) → IsLive self.now → 1 ≤ k
+            → ShowsAt self.now.memory view.now (Place.Line k)
+            → MatchOption result ⊥ (λ j. j ≤ k) }
     {
         if !self.is_live() {
             return None;
@@ -273,6 +278,7 @@ impl Recogniser {
             → IfSome result (IsRoomFor self.now.memory) }
         ensures begins { IfSome result (λ node. halves_of node.step.way ≡ 1) }
     {
+        dgt_values::laws::equal_is_same();
         let from = self.memory.node(place)?;
         let shown = view.from(from.step.is_turned);
         let whole = put_back(shown, &from.step.state);
@@ -457,13 +463,7 @@ impl Recogniser {
     fn lifts_after_back(&self, view: &View) -> bool
         ensures { self.now.returned.count ≡ 0 → result ≡ false }
     {
-        match self.memory.line.get(self.returned.count) {
-            Some(node) => {
-                self.returned.count > 0
-                    && lacks_only(view.from(node.step.is_turned), &node.step.state)
-            }
-            None => false,
-        }
+        self.returned.count > 0 && self.is_line_lifted(view, self.returned.count)
     }
 
     // Two half-moves more. Of several, those that moved what has just changed.
@@ -543,7 +543,13 @@ impl Recogniser {
         None
     }
 
-    fn parent_of(&self, place: Place) -> Place {
+    fn parent_of(&self, place: Place) -> Place
+        ensures line { (k : ℕ) → place ≡ Place.Line k → k < 2 ^ 64 - 1
+            → result ≡ Place.Line (k + 1) }
+        ensures seen { (k : ℕ) → place ≡ Place.Seen k
+            → IfSome (slice_get (steps self.now.memory.seen.items) k)
+            (λ step. result ≡ step.parent) }
+    {
         match (place, self.memory.node(place)) {
             (Place::Line(k), _) => Place::Line(k.saturating_add(1)),
             (_, Some(node)) => node.step.parent,
@@ -673,9 +679,7 @@ impl Recogniser {
         let Some(last) = self.memory.line.get(0) else {
             return false;
         };
-        last.step.way == Way::Begun
-            && last.step.is_turned == node.step.is_turned
-            && self.root_position(node) == *last.step.state.position()
+        last.step.way == Way::Begun && self.root_position(node) == *last.step.state.position()
     }
 
     fn root_position(&self, node: &Node) -> Position {
@@ -786,6 +790,9 @@ impl Recogniser {
           parent = parent;
         } }
         ensures sure { result.is_sure ≡ false }
+        ensures now { (result.at ≡ self.now.since) × (result.left ≡ self.now.since)
+            × (result.is_held ≡ false) × (result.was_behind ≡ self.now.is_behind) }
+        ensures path { GoesOnBy from.now result }
     {
         let origin = match parent {
             Place::Line(k) => Origin::Line(k),
@@ -909,7 +916,11 @@ fn is_between(node: &Node, from: &Node, moves: &Moves) -> bool {
 }
 
 // The same position with the other side to move.
-fn other_side(state: &State) -> Option<State> {
+fn other_side(state: &State) -> Option<State>
+    ensures { IfSome result (λ new. (board new ≡ board state.now)
+        × (new.turn ≡ other state.now.turn) × (new.rights ≡ state.now.rights)
+        × (new.number ≡ state.now.number) × (new.half_moves ≡ state.now.half_moves)) }
+{
     State::new(
         *state.position(),
         state.turn().other(),
@@ -921,8 +932,16 @@ fn other_side(state: &State) -> Option<State> {
     .ok()
 }
 
-// Whether pieces of a state are gone, and no others are shown.
-pub(crate) fn lacks_only(shown: &Position, state: &State) -> bool
+// Whether some pieces of a state are gone, and no others are shown.
+pub(crate) fn lacks_some(shown: &Position, state: &State) -> bool
+    ensures { IsTrue result ↔ LacksSome (pieces_of shown.now) state.now }
+{
+    dgt_values::laws::equal_is_same();
+    lacks_only(shown, state) && shown != state.position()
+}
+
+// Whether each square shows a state's piece, or none.
+fn lacks_only(shown: &Position, state: &State) -> bool
     ensures { IsTrue result ↔ LacksOnly (pieces_of shown.now) state.now }
 {
     for at in 0..64 {

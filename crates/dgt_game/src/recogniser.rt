@@ -2,13 +2,13 @@
 
 ghost use Rattle.std.specs.Prelude.{IsErr, IsOk, false, true, ◌≡◌, ◌≢◌, ◌≤◌, ◌↔◌, ◌⊎◌, ℕ, List, [], ◌∷◌, Option, Some, None, IfSome, IsTrue, MatchOption, Contains, option_map, map, length, slice_get, ◌<◌};
 ghost use Rattle.dgt_values.specs.declared.pieces.Piece.{Piece};
-ghost use Rattle.dgt_values.specs.Board.{pieces_of};
+ghost use Rattle.dgt_values.specs.Board.{DifferingSquares, pieces_of};
 ghost use Rattle.dgt_chess.specs.Attacks.{piece_at, piece_of};
 ghost use Rattle.dgt_chess.specs.declared.pieces.Man.{Man};
 ghost use Rattle.dgt_game.specs.declared.node.Place.{Place};
 ghost use Rattle.dgt_game.specs.declared.reading.Reading.{Reading};
 ghost use Rattle.dgt_game.specs.declared.recogniser.Search.{Search};
-ghost use Rattle.dgt_game.specs.Planning.{LacksOnly};
+ghost use Rattle.dgt_game.specs.Planning.{LacksOnly, LacksSome};
 ghost use Rattle.dgt_game.specs.declared.view.View.{View};
 ghost use Rattle.dgt_game.specs.Told.{Told};
 
@@ -16,7 +16,7 @@ use crate::event::{Event, GameResult};
 use crate::memory::Memory;
 use crate::node::{Node, Origin, Place, Returned, Way};
 use crate::observation::{Observation, Sight};
-use crate::reading::{Reading, lacks_only};
+use crate::reading::{Reading, lacks_some};
 use crate::resting::Next;
 use crate::times::{FINAL, GLANCE, NEAR};
 use crate::view::{View, king};
@@ -55,6 +55,8 @@ pub(crate) enum Lost {
 pub(crate) enum Search {
     Waiting,
     Done,
+    /// No line can begin with the position while the same clock runs, or none.
+    Refused,
     /// Nothing will come of the position.
     Hopeless,
 }
@@ -95,14 +97,14 @@ impl Recogniser {
     ghost use Rattle.dgt_game.specs.Finding.{IsFound};
     ghost use Rattle.dgt_game.specs.Planning.{AddsNone, IsLifted, IsPlanned, HasKing, IsLostOr, PlacesOr, WhyHopeless};
     ghost use Rattle.dgt_game.specs.Reading.{HasLine, IsExplained, HasRoom, IsLive, IsRoomFor, ReadsView, FollowsSeen, IsKnown, IsRead};
-    ghost use Rattle.dgt_game.specs.Recogniser.{GoesOn, Knows, Sees, new_recogniser, picture_of, pictured};
+    ghost use Rattle.dgt_game.specs.Recogniser.{GoesOn, Knows, Sees, last_state, new_recogniser, picture_of, pictured};
     ghost use Rattle.dgt_game.specs.Reading.{ReadsView, Shows};
-    ghost use Rattle.dgt_game.specs.Settling.{IsAnswered};
-    ghost use Rattle.dgt_game.specs.Standing.{IsOpen, ShowsAs, Stands};
+    ghost use Rattle.dgt_game.specs.Settling.{HasGoneBack, IsAnswered, IsUnexplained, RemembersDoubt, StandsAnew};
+    ghost use Rattle.dgt_game.specs.Standing.{IsOpen, ShowsBut, Stands};
     ghost use Rattle.dgt_game.specs.Sure.{FollowsSure, IsMarked, KeepsSure, KnowsSure, MarksStart, SeesSure, WereSure};
     ghost use Rattle.dgt_game.specs.Timing.{IsIdle};
     ghost use Rattle.dgt_game.specs.Told.{WasShown, told_pieces};
-    ghost use Rattle.dgt_game.specs.Waiting.{Follows, IsQuiet, Keeps, LostWaits, Waits, has_notice, has_result, is_lost, is_sure_sight};
+    ghost use Rattle.dgt_game.specs.Waiting.{Follows, IsQuiet, Keeps, LostWaits, Waits, has_notice, has_result, is_lost, is_sure_sight, last_of};
 
     /// A recogniser that has seen nothing.
     pub fn new() -> Self
@@ -169,12 +171,18 @@ impl Recogniser {
             → FollowsSeen self.old.memory (pieces_of view.shown)
             → self.new.here ≢ Place.Nowhere }
         ensures sight { IsOk result → SeesSure self.old observation.now.sight self.new }
+        ensures running { IsOk result → self.new.running ≡ observation.now.running }
+        ensures sure_since { self.old.is_sure ≡ true → self.new.sure_since ≡ self.old.sure_since }
+        ensures behind { IsOk result → (self.old.is_behind ≡ true) ⊎ ((self.old.is_sure ≡ true)
+            × (is_sure_sight observation.now.sight ≡ false)) → (self.new.is_behind ≡ true)
+            ⊎ ((self.new.is_sure ≡ true) × (self.new.here ≡ Place.Line 0)) }
     {
         if self.is_due(observation.at) {
             return Err(StillDue);
         }
         let view = View::of(observation.sight);
         let is_sure = matches!(observation.sight, Sight::Sure(_));
+        let is_same_clock = observation.running == self.running;
         self.running = observation.running;
         if !View::is_same_picture(&view, &self.view) || is_sure != self.is_sure {
             self.leave(observation.at);
@@ -187,16 +195,20 @@ impl Recogniser {
             self.show(view, observation.at);
         }
         self.is_confirmed = observation.is_confirmed;
+        self.running = observation.running;
+        self.search = with_clock(self.search, is_same_clock);
         self.next = self.plan();
         Ok(())
     }
 
     /// The state that what was reported ends in.
-    pub fn state(&self) -> Option<State> {
-        match self.memory.line.get(0) {
-            Some(node) => Some(node.step.state),
-            None => None,
-        }
+    pub fn state(&self) -> Option<State>
+        ensures last { result ≡ option_map (λ step. step.state) (last_of self.now.memory) }
+        ensures line { (shown : List (List Piece)) (line : List Told)
+            → Knows shown line self.now → result ≡ last_state line }
+    {
+        let node = self.memory.line.get(0)?;
+        Some(node.step.state)
     }
 
     /// Goes on from this state of a game, as if it had been reported, and forgets all else. If the
@@ -216,6 +228,8 @@ impl Recogniser {
           halves = 0;
           is_turned = is_turned;
         }) ∷ []) self.new }
+        ensures start { MatchOption (slice_get self.new.memory.line.items 0) ⊥
+            (λ node. node.origin ≡ Origin.Start) }
     {
         *self = Recogniser::new();
         self.memory
@@ -252,6 +266,7 @@ impl Recogniser {
         ensures kept { length self.old.memory.seen.items < 21 → (picture : List Piece)
             → FollowsSeen self.old.memory picture → FollowsSeen self.new.memory picture }
         ensures sure { KeepsSure self.old self.new }
+        ensures behind { self.new.is_behind ≡ self.old.is_behind }
     {
         self.memory.leave(self.here, now);
         if self.is_unexplained(now) || self.may_either_move() {
@@ -260,7 +275,9 @@ impl Recogniser {
     }
 
     // Whether nothing led to what is shown, though it rested.
-    fn is_unexplained(&self, now: u64) -> bool {
+    fn is_unexplained(&self, now: u64) -> bool
+        ensures { IsTrue result ↔ IsUnexplained now self.now }
+    {
         self.here == Place::Nowhere
             && now.saturating_sub(self.since) >= GLANCE
             && (self.is_behind || self.over == Over::No)
@@ -295,7 +312,8 @@ impl Recogniser {
         ensures stands { IsOpen self.old.memory → Stands self.new }
         ensures reads { length self.old.memory.seen.items < 23 → IsExplained self.new }
         ensures answers { IsOpen self.old.memory → IsAnswered self.new.memory }
-        ensures search { self.new.search ≢ Search.Done }
+        ensures search { (self.new.search ≡ Search.Hopeless)
+            ⊎ (self.new.search ≡ Search.Waiting) }
         ensures hopeless { WhyHopeless self.new }
         ensures shown { self.new.view ≡ view }
         ensures seen { (shown : View) → view ≡ Some shown → length self.old.memory.seen.items < 23
@@ -306,6 +324,11 @@ impl Recogniser {
             → MatchOption view ⊥ (λ view. Contains sure (pieces_of view.shown)))
             → WereSure sure self.old.memory self.old.returned
             → WereSure sure self.new.memory self.new.returned }
+        ensures squares { (before after : View) → self.old.view ≡ Some before → view ≡ Some after
+            → DifferingSquares (pieces_of before.shown) (pieces_of after.shown) self.new.changed }
+        ensures sure_since { self.new.sure_since ≡ self.old.sure_since }
+        ensures behind { RemembersDoubt self.old self.new }
+        ensures away { view ≡ None → self.new.here ≡ self.old.here }
     {
         self.changed = match (&self.view, &view) {
             (Some(old), Some(new)) => old.shown.differ(&new.shown),
@@ -338,7 +361,8 @@ impl Recogniser {
         ensures line { self.new.memory.line ≡ self.old.memory.line }
         ensures reads { length self.old.memory.seen.items < 23 → IsKnown self.old view.now
             → self.new.here ≢ Place.Nowhere }
-        ensures search { self.old.search ≢ Search.Done → self.new.search ≢ Search.Done }
+        ensures search { (self.new.search ≡ self.old.search)
+            ⊎ (self.new.search ≡ Search.Waiting) }
         ensures hopeless { self.new.search ≡ Search.Hopeless
             → (colour : Colour) × ¬ (HasKing (pieces_of view.now.shown) colour) }
         ensures seen { length self.old.memory.seen.items < 23
@@ -350,6 +374,9 @@ impl Recogniser {
             → (self.old.is_sure ≡ true → Contains sure (pieces_of view.now.shown))
             → WereSure sure self.old.memory self.old.returned
             → WereSure sure self.new.memory self.new.returned }
+        ensures behind { RemembersDoubt self.old self.new }
+        ensures set_up { ((colour : Colour) → ¬ (HasKing (pieces_of view.now.shown) colour))
+            → self.new.is_set_up ≡ true }
     {
         let has_white = self.has_king(view, Colour::White);
         let has_black = self.has_king(view, Colour::Black);
@@ -373,6 +400,8 @@ impl Recogniser {
             → has_black ≡ true → IsRead result }
         ensures room { HasRoom self.now.memory result }
         ensures begins { MarksStart result }
+        ensures none { has_white ≡ false → has_black ≡ false
+            → result ≡ Reading.At Place.Nowhere }
     {
         if has_white && has_black {
             self.read(view)
@@ -407,11 +436,14 @@ impl Recogniser {
             → ReadsView self.old.memory view reading → MarksStart reading
             → WereSure sure self.old.memory self.old.returned
             → WereSure sure self.new.memory self.new.returned }
+        ensures behind { RemembersDoubt self.old self.new }
+        ensures set_up { reading ≡ Reading.At Place.Nowhere
+            → self.new.is_set_up ≡ self.old.is_set_up }
     {
         match reading {
             Reading::At(Place::Line(k)) => self.stand_on_line(k),
             Reading::At(place) => self.stand_on(place),
-            Reading::New(node) => self.add(node),
+            Reading::New(node) => self.add(node, false),
             Reading::Held(node) => self.hold(node),
             Reading::Two(first, second) => self.add_two(first, second),
         }
@@ -446,6 +478,8 @@ impl Recogniser {
             (λ step. WasShown sure (told_of step)))
             → WereSure sure self.old.memory self.old.returned
             → WereSure sure self.new.memory self.new.returned }
+        ensures behind { RemembersDoubt self.old self.new }
+        ensures last { k ≡ 0 → self.old.is_sure ≡ true → StandsAnew self.new }
     {
         self.here = Place::Line(k);
         self.returned = self.returned_to(k);
@@ -465,7 +499,9 @@ impl Recogniser {
 
     // The board shows the state of the line that is `k` before its last one.
     fn returned_to(&self, k: usize) -> Returned
-        ensures { result.is_sure ≡ true → (self.now.is_sure ≡ true) × (result.count ≡ k) }
+        ensures sure { result.is_sure ≡ true → (self.now.is_sure ≡ true) × (result.count ≡ k) }
+        ensures near { k ≤ 4 → (result.count ≡ k) × (result.is_sure ≡ self.now.is_sure) }
+        ensures far { 4 < k → (result.count ≡ 0) × (result.is_sure ≡ false) }
     {
         if k <= NEAR {
             Returned {
@@ -501,6 +537,8 @@ impl Recogniser {
             (λ step. WasShown sure (told_of step)))
             → WereSure sure self.old.memory self.old.returned
             → WereSure sure self.new.memory self.new.returned }
+        ensures behind { RemembersDoubt self.old self.new }
+        ensures set_up { self.new.is_set_up ≡ self.old.is_set_up }
     {
         self.here = place;
         self.is_next = false;
@@ -533,14 +571,11 @@ impl Recogniser {
             → (self.old.is_sure ≡ true → WasShown sure (told_of node.step))
             → WereSure sure self.old.memory self.old.returned
             → WereSure sure self.new.memory self.new.returned }
+        ensures behind { RemembersDoubt self.old self.new }
     {
         match self.same_node(&node) {
             Some(k) => self.here = Place::Seen(k),
-            None => {
-                let mut held = node;
-                held.is_held = true;
-                self.add(held);
-            }
+            None => self.add(node, true),
         }
         self.is_next = false;
     }
@@ -551,6 +586,8 @@ impl Recogniser {
         ensures follows { IsTrue result → (node.now.step.parent ≢ Place.Line 0)
             × (node.now.step.parent ≢ Place.Nowhere) × (node.now.step.way ≢ Way.Begun) }
         ensures sure { IsTrue result → FollowsSure self.now node.now }
+        ensures back { (k : ℕ) → node.now.step.parent ≡ Place.Line k
+            → IsTrue result ↔ (node.now.step.way ≢ Way.Begun) × HasGoneBack k self.now }
     {
         node.step.way != Way::Begun
             && match node.step.parent {
@@ -583,6 +620,7 @@ impl Recogniser {
             → (self.old.is_sure ≡ true → WasShown sure (told_of second.step))
             → WereSure sure self.old.memory self.old.returned
             → WereSure sure self.new.memory self.new.returned }
+        ensures behind { RemembersDoubt self.old self.new }
     {
         let Some(k) = self.memory.push(first) else {
             self.here = Place::Nowhere;
@@ -591,11 +629,12 @@ impl Recogniser {
         };
         let mut node = second;
         node.step.parent = Place::Seen(k);
-        self.add(node);
+        self.add(node, false);
     }
 
-    // Adds a node, at which the board is now. It may answer the half-move before.
-    pub(crate) fn add(&mut self, node: Node)
+    // Adds a node, at which the board is now, but for pieces in hands if it is held. It may answer
+    // the half-move before.
+    pub(crate) fn add(&mut self, node: Node, is_held: bool)
         ensures holds { (shown : List (List Piece)) (line : List Told)
             → self.old.memory.back ≡ 0 → self.old.memory.unsaid.items ≡ []
             → Reads shown self.old.memory (Reading.New node)
@@ -605,8 +644,9 @@ impl Recogniser {
         ensures answers { IsOpen self.old.memory → IsAnswered self.new.memory }
         ensures doubt { self.old.is_sure ≡ false → IsQuiet self.old → IsQuiet self.new }
         ensures stands { (view : View) → IsOpen self.old.memory → self.old.view ≡ Some view
-            → (Shows view node.step → Stands self.new)
-            × (ShowsAs view node → Stands (record self.new { is_next = false })) }
+            → (is_held ≡ false → Shows view node.step → Stands self.new)
+            × (is_held ≡ true → ShowsBut view node.step
+            → Stands (record self.new { is_next = false })) }
         ensures todo { AddsNone self.old self.new }
         ensures here { length self.old.memory.seen.items < 24
             → IsRoomFor self.old.memory node → self.new.here ≢ Place.Nowhere }
@@ -616,9 +656,11 @@ impl Recogniser {
             → (self.old.is_sure ≡ true → WasShown sure (told_of node.step))
             → WereSure sure self.old.memory self.old.returned
             → WereSure sure self.new.memory self.new.returned }
+        ensures behind { RemembersDoubt self.old self.new }
     {
         let mut new = node;
         new.is_sure = self.is_sure;
+        new.is_held = is_held;
         let Some(k) = self.memory.push(new) else {
             self.here = Place::Nowhere;
             self.is_next = false;
@@ -633,24 +675,45 @@ impl Recogniser {
         }
     }
 
-    // Whether the board lacks pieces of a known state, and shows no others.
+    // Whether the board lacks some pieces of a known state, and shows no others.
     pub(crate) fn is_lifted(&self) -> bool
         ensures { IsTrue result ↔ IsLifted self.now }
     {
         let Some(view) = self.view else {
             return false;
         };
-        if let Some(node) = self.memory.line.get(0) {
-            if lacks_only(view.from(node.step.is_turned), &node.step.state) {
-                return true;
-            }
+        if self.is_line_lifted(&view, 0) || self.is_line_lifted(&view, self.returned.count) {
+            return true;
         }
         for k in 0..self.memory.seen.len() {
             let step = &self.memory.seen[k].step;
-            if lacks_only(view.from(step.is_turned), &step.state) {
+            if lacks_some(view.from(step.is_turned), &step.state) {
                 return true;
             }
         }
         false
+    }
+
+    // Whether the board lacks some pieces of a state of the line, and shows no others.
+    pub(crate) fn is_line_lifted(&self, view: &View, k: usize) -> bool
+        ensures { IsTrue result ↔ MatchOption (slice_get (steps self.now.memory.line.items) k) ⊥
+            (ShowsBut view.now) }
+    {
+        match self.memory.line.get(k) {
+            Some(node) => lacks_some(view.from(node.step.is_turned), &node.step.state),
+            None => false,
+        }
+    }
+}
+
+// With another clock, a line may begin with a position that was refused.
+fn with_clock(search: Search, is_same: bool) -> Search
+    ensures same { (result ≡ search) ⊎ ((search ≡ Search.Refused) × (result ≡ Search.Waiting)) }
+    ensures other { is_same ≡ false → result ≢ Search.Refused }
+{
+    if search == Search::Refused && !is_same {
+        Search::Waiting
+    } else {
+        search
     }
 }

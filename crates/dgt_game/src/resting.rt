@@ -33,12 +33,12 @@ impl Recogniser {
     ghost use Rattle.dgt_game.specs.Memory.{Holds, IsRooted, IsTold, steps};
     ghost use Rattle.dgt_game.specs.Recogniser.{Knows, Reports, Stays};
     ghost use Rattle.dgt_game.specs.Finding.{FindsLater, IsFound};
-    ghost use Rattle.dgt_game.specs.Planning.{RestsAfter, RestsBefore, TaskFits, IsAtLast, IsPlanned, MayNotBegin, Plans, PlansPosition, todo, HasNothing, IsLostOr, StaysPlaced, WhyHopeless};
-    ghost use Rattle.dgt_game.specs.Settling.{StaysShown};
-    ghost use Rattle.dgt_game.specs.Standing.{ShowsHere, Stands};
+    ghost use Rattle.dgt_game.specs.Planning.{RestsAfter, RestsBefore, SearchesSoon, TaskFits, IsAtLast, IsPlanned, MayNotBegin, Plans, PlansPosition, todo, HasNothing, IsLostOr, StaysPlaced, WhyHopeless};
+    ghost use Rattle.dgt_game.specs.Settling.{CallsForRest, IsNotPressed, StaysShown};
+    ghost use Rattle.dgt_game.specs.Standing.{IsThere, ShowsHere, Stands};
     ghost use Rattle.dgt_game.specs.Sure.{KeepsSure, StaysSure};
-    ghost use Rattle.dgt_game.specs.Timing.{Acts, Due, IsIdle, Tells, next_time};
-    ghost use Rattle.dgt_game.specs.Waiting.{Follows, IsQuiet, IsRight, Keeps, Waits};
+    ghost use Rattle.dgt_game.specs.Timing.{Acts, Due, IsIdle, Tells, TellsNext, next_time};
+    ghost use Rattle.dgt_game.specs.Waiting.{Follows, IsOfLine, IsQuiet, IsRight, Keeps, Waits};
 
     /// When [`Recogniser::due`] has something to do next, if nothing else is seen until then.
     pub fn due_at(&self) -> Option<u64>
@@ -80,6 +80,9 @@ impl Recogniser {
             × (self.new.is_sure ≡ self.old.is_sure) }
         ensures sure { (shown : List (List Piece)) (line : List Told) → Knows shown line self.old
             → IsPlanned self.old → Stands self.old → StaysSure self.old self.new }
+        ensures there { (shown : List (List Piece)) (line : List Told)
+            → Knows shown line self.old → IsPlanned self.old → Stands self.old → Waits self.old
+            → IfSome result (λ event. IsOfLine event → IsThere self.new) }
     {
         for done in 0..3u8 {
             if let Some(event) = self.report() {
@@ -103,6 +106,8 @@ impl Recogniser {
             (λ event. IsPlanned self.new) }
         ensures lost { IsLostOr self.old → IsLostOr self.new }
         ensures place { StaysPlaced self.old self.new }
+        ensures there { Stands self.old → Waits self.old
+            → IfSome result (λ event. IsOfLine event → IsThere self.new) }
         ensures stands { Stands self.old → Stands self.new }
         ensures found { IsLostOr self.old → IsFound self.old → IsFound self.new }
         ensures shown { StaysShown self.old self.new }
@@ -140,6 +145,11 @@ impl Recogniser {
     // What is to be done next.
     pub(crate) fn plan(&self) -> Option<Next>
         ensures plans { Plans self.now result }
+        ensures kings { self.now.has_kings ≡ true → self.now.is_confirmed ≡ true
+            → MatchOption result ⊥
+            (λ next. (next.task ≡ Task.EndByKings) ⊎ (next.wait < 1000)) }
+        ensures behind { SearchesSoon self.now
+            → MatchOption result ⊥ (λ next. next.task ≡ Task.Search) }
     {
         let other = self.next_of_position();
         if self.has_kings && self.is_confirmed {
@@ -159,6 +169,8 @@ impl Recogniser {
     // What is done next with the position that is shown.
     fn next_of_position(&self) -> Option<Next>
         ensures plans { PlansPosition self.now result }
+        ensures behind { SearchesSoon self.now
+            → MatchOption result ⊥ (λ next. (next.task ≡ Task.Search) × (next.wait ≡ 320)) }
     {
         let (wait, task) = if self.is_next {
             (self.rest(), Task::Tell)
@@ -170,7 +182,7 @@ impl Recogniser {
                 Search::Waiting => (JUMP, Task::Search),
                 Search::Done if self.is_lifted() => return None,
                 Search::Done => (self.new_wait()?, Task::Begin),
-                Search::Hopeless => return None,
+                Search::Refused | Search::Hopeless => return None,
             }
         };
         if !self.is_confirmed && !(task == Task::Search && self.is_behind) {
@@ -188,6 +200,7 @@ impl Recogniser {
             → self.old.is_sure ≡ true → TaskFits self.old task → Stands self.old
             → Stands self.new }
         ensures todo { TaskFits self.old task → todo self.new < todo self.old }
+        ensures next { TaskFits self.old task → TellsNext self.old self.new }
         ensures lost { IsQuiet self.old → IsLostOr self.old → IsLostOr self.new }
         ensures hopeless { WhyHopeless self.old → WhyHopeless self.new }
         ensures found { TaskFits self.old task → FindsLater self.old → FindsLater self.new }
@@ -210,6 +223,7 @@ impl Recogniser {
     fn new_wait(&self) -> Option<u64>
         ensures soon { IfSome result (λ wait. wait ≤ NEW_STILL) }
         ensures plans { result ≡ None → MayNotBegin self.now }
+        ensures none { MayNotBegin self.now → result ≡ None }
         ensures least { IfSome result (λ wait. RestsBefore self.now Task.Begin wait) }
     {
         if self.memory.line.is_empty() {
@@ -250,7 +264,11 @@ impl Recogniser {
 
     // The same, of half-moves that follow a state of the line.
     fn rest_after(&self, node: &Node, base: usize) -> u64
-        ensures { RestsAfter base self.now.returned.count result }
+        ensures by { RestsAfter base self.now.returned.count result }
+        ensures why { CallsForRest self.now node.now base result }
+        ensures jumps { node.now.jumps ≡ true → 1000 ≤ result }
+        ensures pressed { base ≡ 0 → IsNotPressed self.now node.now → 3000 ≤ result }
+        ensures far { node.now.jumps_far ≡ true → self.now.is_behind ≡ false → result ≡ 10000 }
     {
         let mut wait = SETTLE;
         if self.is_quick_path(node) || node.jumps_far && !self.is_behind {

@@ -1,12 +1,14 @@
 //! Positions that no half-move leads to: several half-moves, or another line.
 
-ghost use Rattle.std.specs.Prelude.{◌≡◌, ◌⊎◌, ℕ, List, [], Option, Some, None, IfSome, Contains, length, true, ◌<◌, ◌≤◌, ◌+◌, ◌≢◌, Bool, IsTrue, IsSome};
+ghost use Rattle.std.specs.Prelude.{◌≡◌, ◌⊎◌, ℕ, List, [], Option, Some, None, IfSome, Contains, length, true, false, ◌<◌, ◌≤◌, ◌+◌, ◌≢◌, ◌↔◌, Bool, IsTrue, IsSome, MatchOption};
 ghost use Rattle.dgt_values.specs.declared.pieces.Piece.{Piece};
 ghost use Rattle.dgt_values.specs.Board.{pieces_of};
 ghost use Rattle.dgt_chess.specs.Attacks.{piece_at};
 ghost use Rattle.dgt_chess.specs.Possible.{IsAtHome};
+ghost use Rattle.dgt_chess.specs.declared.pieces.Colour.{Colour};
 ghost use Rattle.dgt_chess.specs.Rules.{board};
-ghost use Rattle.dgt_game.specs.Planning.{IsRefused};
+ghost use Rattle.dgt_game.specs.Planning.{AreHome, IsRefused, IsSetUp};
+ghost use Rattle.dgt_game.specs.declared.recogniser.Over.{Over};
 ghost use Rattle.dgt_game.specs.Reading.{HasMoved};
 ghost use Rattle.dgt_game.specs.declared.reading.Reading.{Reading};
 ghost use Rattle.dgt_game.specs.declared.recogniser.Lost.{Lost};
@@ -30,6 +32,7 @@ impl Recogniser {
     ghost use Rattle.dgt_game.specs.Finding.{IsSearched, MayJump};
     ghost use Rattle.dgt_game.specs.Standing.{IsOpen, Stands};
     ghost use Rattle.dgt_game.specs.declared.resting.Task.{Task};
+    ghost use Rattle.dgt_game.specs.Memory.{IsUnordered};
     ghost use Rattle.dgt_game.specs.Planning.{TaskFits, AddsNone, IsAsBefore, IsAtLast, CannotBegin, CannotMove, EndsSearch, IsLostOr, LosesLine, PlacesOr, WhyHopeless};
     ghost use Rattle.dgt_game.specs.Sure.{IsMarked, KeepsSure, MarksStart, ShowsSure, WereSure};
     ghost use Rattle.dgt_game.specs.Told.{WasShown};
@@ -91,7 +94,7 @@ impl Recogniser {
             → WereSure sure self.new.memory self.new.returned }
     {
         self.lose_by(&node, view);
-        self.add(node);
+        self.add(node, false);
     }
 
     fn lose_by(&mut self, node: &Node, view: &View)
@@ -159,6 +162,7 @@ impl Recogniser {
         ensures linked { (pieces : List Piece)
             → IfSome line (λ other. FitsBy self.now.memory pieces other)
             → FitsBy self.now.memory pieces node → FitsBy self.now.memory pieces result }
+        ensures gap { (result ≡ node) ⊎ IfSome line (λ other. IsUnordered other result) }
         ensures room { IfSome line (IsRoomFor self.now.memory) → IsRoomFor self.now.memory node
             → IsRoomFor self.now.memory result }
     {
@@ -214,6 +218,8 @@ impl Recogniser {
     // Whether there is a node after which the player whose clock runs moves next.
     fn is_in_turn(&self, found: &Option<Node>) -> bool
         ensures reads { result ≡ true → IsSome found.now }
+        ensures turn { IsTrue result ↔ MatchOption found.now ⊥ (λ node.
+            (self.now.running ≡ None) ⊎ (self.now.running ≡ Some node.step.state.turn)) }
     {
         match found {
             Some(node) => { self.running.is_none() || self.running == Some(node.step.state.turn()) }
@@ -244,6 +250,7 @@ impl Recogniser {
     fn unordered(&self, node: Node) -> Node
         ensures linked { (pieces : List Piece) → FitsBy self.now.memory pieces node
             → FitsBy self.now.memory pieces result }
+        ensures gap { IsUnordered node result }
         ensures room { IsRoomFor self.now.memory node → IsRoomFor self.now.memory result }
     {
         let mut new = node;
@@ -252,7 +259,10 @@ impl Recogniser {
         new
     }
 
-    fn may_start(&self) -> bool {
+    fn may_start(&self) -> bool
+        ensures { IsTrue result ↔ (self.now.is_set_up ≡ true) ⊎ (self.now.is_behind ≡ true)
+            ⊎ (self.now.memory.line.items ≡ []) }
+    {
         self.is_set_up || self.is_behind || self.memory.line.is_empty()
     }
 
@@ -327,6 +337,7 @@ impl Recogniser {
         ensures lost { self.old.lost ≢ Lost.Found
             → (self.new.lost ≢ Lost.Found) × LosesLine self.new }
         ensures only { self.new ≡ record self.old { lost = self.new.lost } }
+        ensures ended { self.old.over ≢ Over.No → self.new.lost ≡ self.old.lost }
     {
         if self.over != Over::No || self.lost != Lost::No || self.is_lifted() {
             return;
@@ -358,7 +369,7 @@ impl Recogniser {
         ensures hopeless { WhyHopeless self.new }
         ensures sure { self.old.is_sure ≡ true → KeepsSure self.old self.new }
     {
-        self.search = Search::Hopeless;
+        self.search = Search::Refused;
         self.memory.forget_seen();
         let Some((root, other)) = self.first_root() else {
             return;
@@ -385,6 +396,7 @@ impl Recogniser {
         ensures kept { length self.old.memory.seen.items < 21 → (picture : List Piece)
             → FollowsSeen self.old.memory picture → FollowsSeen self.new.memory picture }
         ensures sure { KeepsSure self.old self.new }
+        ensures behind { self.new.is_behind ≡ self.old.is_behind }
     {
         let (white, black) = self.roots();
         self.memory.make_room(2);
@@ -410,6 +422,7 @@ impl Recogniser {
         ensures sure { (sure : List (List Piece)) → IfSome root (IsMarked sure)
             → WereSure sure self.old.memory self.old.returned
             → WereSure sure self.new.memory self.new.returned }
+        ensures behind { self.new.is_behind ≡ self.old.is_behind }
     {
         if let Some(node) = root {
             self.memory.push(node);
@@ -423,13 +436,18 @@ impl Recogniser {
             → IfSome result (λ found. IsRoot shown found.0
             × IfSome found.1 (λ node. IsRoot shown node)) }
         ensures none { result ≡ None → (view : View) → self.now.view ≡ Some view
-            → CannotBegin view }
+            → CannotBegin self.now.running view }
         ensures at { IfSome self.now.view (λ view. IfSome result (λ found. Shows view found.0.step
             × IfSome found.1 (λ node. Shows view node.step))) }
         ensures free { IfSome result (λ found. found.0.step.parent ≡ Place.Nowhere) }
         ensures marked { (sure : List (List Piece)) → ShowsSure sure self.now
             → IfSome result (λ found. IsMarked sure found.0 × IfSome found.1 (IsMarked sure)) }
         ensures sure { IfSome result (λ found. found.0.is_sure ≡ self.now.is_sure) }
+        ensures whole { IfSome result (λ found. IfSome found.1 (λ node. node.is_held ≡ false)) }
+        ensures first { IfSome result (λ found. (found.0.step.state.turn ≡ Colour.White)
+            ⊎ (found.1 ≡ None)) }
+        ensures set_up { IfSome result (λ found. IsSetUp found.0.step.state
+            × IfSome found.1 (λ node. IsSetUp node.step.state)) }
     {
         let (white, black) = self.roots();
         match white {
@@ -455,6 +473,12 @@ impl Recogniser {
             → IfSome result.0 (IsMarked sure) × IfSome result.1 (IsMarked sure) }
         ensures sure { IfSome result.0 (λ node. node.is_sure ≡ self.now.is_sure)
             × IfSome result.1 (λ node. node.is_sure ≡ self.now.is_sure) }
+        ensures whole { IfSome result.0 (λ node. node.is_held ≡ false)
+            × IfSome result.1 (λ node. node.is_held ≡ false) }
+        ensures turns { IfSome result.0 (λ node. node.step.state.turn ≡ Colour.White)
+            × IfSome result.1 (λ node. node.step.state.turn ≡ Colour.Black) }
+        ensures set_up { IfSome result.0 (λ node. IsSetUp node.step.state)
+            × IfSome result.1 (λ node. IsSetUp node.step.state) }
     {
         let is_turned = self.is_shown_turned();
         (
@@ -464,7 +488,9 @@ impl Recogniser {
     }
 
     // Whether the board is turned, as in the line before, or as it seems.
-    fn is_shown_turned(&self) -> bool {
+    fn is_shown_turned(&self) -> bool
+        ensures { IfSome (last_of self.now.memory) (λ step. result ≡ step.is_turned) }
+    {
         match (self.memory.line.get(0), &self.view) {
             (Some(last), _) => last.step.is_turned,
             (None, Some(view)) => is_white_above(&view.shown),
@@ -483,6 +509,9 @@ impl Recogniser {
         ensures marked { (sure : List (List Piece)) → ShowsSure sure self.now
             → IfSome result (IsMarked sure) }
         ensures sure { IfSome result (λ node. node.is_sure ≡ self.now.is_sure) }
+        ensures whole { IfSome result (λ node. node.is_held ≡ false) }
+        ensures turn { IfSome result (λ node. node.step.state.turn ≡ turn) }
+        ensures set_up { IfSome result (λ node. IsSetUp node.step.state) }
     {
         let view = self.view?;
         if self.is_confirmed && self.running == Some(turn.other()) {
@@ -516,6 +545,8 @@ fn has_moved(shown: &Position, state: &State, side: Colour) -> bool
 fn placed(position: &Position, turn: Colour) -> Option<State>
     ensures placed { IfSome result (λ state. board state ≡ pieces_of position.now) }
     ensures none { result ≡ None → IsRefused (pieces_of position.now) turn }
+    ensures turn { IfSome result (λ state. state.turn ≡ turn) }
+    ensures set_up { IfSome result IsSetUp }
 {
     let rights = Rights {
         white_short: is_home(position, Colour::White, 60, 63),
@@ -529,14 +560,15 @@ fn placed(position: &Position, turn: Colour) -> Option<State>
 // Whether king and rook are at home.
 fn is_home(position: &Position, colour: Colour, home: u8, corner: u8) -> bool
     requires { (home < 64) × (corner < 64) }
-    ensures { IsAtHome result (pieces_of position.now) colour home corner }
+    ensures home { IsAtHome result (pieces_of position.now) colour home corner }
+    ensures both { IsTrue result ↔ AreHome (pieces_of position.now) colour home corner }
 {
     is_on(position, home, king(colour)) && is_on(position, corner, colour.piece(Man::Rook))
 }
 
 fn is_on(position: &Position, at: u8, piece: Piece) -> bool
     requires { at < 64 }
-    ensures { IsTrue result → piece_at (pieces_of position.now) at ≡ piece }
+    ensures { IsTrue result ↔ (piece_at (pieces_of position.now) at ≡ piece) }
 {
     is_same(position.get(Square::from_small(at)), piece)
 }

@@ -1,12 +1,12 @@
 //! What is reported, one event at a time.
 
-ghost use Rattle.std.specs.Prelude.{◌≡◌, ◌≢◌, ◌≤◌, ◌↔◌, ◌⊎◌, List, [], None, Some, IfSome, false, true};
+ghost use Rattle.std.specs.Prelude.{◌≡◌, ◌≢◌, ◌≤◌, ◌↔◌, ◌⊎◌, List, [], length, None, Some, IfSome, false, true};
 ghost use Rattle.dgt_chess.specs.Rules.{CanMove};
 ghost use Rattle.dgt_values.specs.declared.pieces.Piece.{Piece};
 ghost use Rattle.dgt_game.specs.Told.{Told};
 ghost use Rattle.dgt_game.specs.declared.node.Place.{Place};
-ghost use Rattle.dgt_game.specs.declared.node.Place.{Place};
 ghost use Rattle.dgt_game.specs.declared.node.Step.{Step};
+ghost use Rattle.dgt_game.specs.declared.recogniser.Lost.{Lost};
 ghost use Rattle.dgt_game.specs.Memory.{steps};
 ghost use Rattle.dgt_game.specs.Results.{ByRules};
 
@@ -20,11 +20,11 @@ impl Recogniser {
     ghost use Rattle.dgt_game.specs.Planning.{IsAsBefore, IsAtLast, IsLostOr, StaysPlaced};
     ghost use Rattle.dgt_game.specs.Results.{HasResult};
     ghost use Rattle.dgt_game.specs.Settling.{StaysShown};
-    ghost use Rattle.dgt_game.specs.Standing.{EndsHere, IsCalledFor, IsMeant, IsOpen, Stands, TakesBack};
+    ghost use Rattle.dgt_game.specs.Standing.{EndsHere, IsAtAnswer, IsCalledFor, IsMeant, IsOpen, IsThere, Stands, TakesBack};
     ghost use Rattle.dgt_game.specs.Sure.{IsMarked, KeepsSure, StaysSure, WasSure, WereSure};
     ghost use Rattle.dgt_game.specs.Timing.{next_time};
-    ghost use Rattle.dgt_game.specs.Waiting.{EndWaits, EndsBy, Follows, IsOfLine, IsQuiet, IsRight, Keeps, Waits, coming, has_notice, has_result, last_of};
-    ghost use Rattle.dgt_game.specs.Memory.{Holds, IsSeen, IsTold, Links, step_at, told_of};
+    ghost use Rattle.dgt_game.specs.Waiting.{EndWaits, EndsBy, EndsByRules, Follows, IsOfLine, IsQuiet, IsRight, Keeps, MustEnd, Waits, coming, has_notice, has_result, last_of};
+    ghost use Rattle.dgt_game.specs.Memory.{Holds, IsRooted, IsSeen, IsTold, Links, step_at, told_of};
     ghost use Rattle.dgt_game.specs.Recogniser.{Knows, Reports, Stays};
 
     /// Whether an event waits to be reported.
@@ -60,6 +60,11 @@ impl Recogniser {
         ensures answers { (step : Step) → IsOpen self.old.memory
             → step_at (steps self.old.memory.line.items) (steps self.old.memory.seen.items) place
             ≡ Some step → place ≢ Place.Line 0 → self.new.memory.answer ≡ answer }
+        ensures lands { (step : Step) → IsRooted (length (steps self.old.memory.line.items))
+            (steps self.old.memory.seen.items)
+            → step_at (steps self.old.memory.line.items) (steps self.old.memory.seen.items) place
+            ≡ Some step → place ≢ Place.Line 0
+            → (coming self.new.memory ≡ Some step) × ¬ (IsTold self.new.memory) }
         ensures idle { IsTold self.new.memory → self.new.memory.answer ≡ None }
         ensures either { (self.new.memory.answer ≡ answer) ⊎ (self.new.memory.answer ≡ None) }
         ensures sure { (sure : List (List Piece))
@@ -96,6 +101,9 @@ impl Recogniser {
         ensures idle { IsQuiet self.old → (result ≡ None) × (self.new ≡ self.old) }
         ensures stands { Stands self.old → Stands self.new }
         ensures nothing { result ≡ None → self.new ≡ record self.old { ended = None } }
+        ensures coming { coming self.new.memory ≡ coming self.old.memory }
+        ensures there { Stands self.old → Waits self.old
+            → IfSome result (λ event. IsOfLine event → IsThere self.new) }
         ensures lost { IsLostOr self.old → IsLostOr self.new }
         ensures place { StaysPlaced self.old self.new }
         ensures found { IsLostOr self.old → IsFound self.old → IsFound self.new }
@@ -125,7 +133,9 @@ impl Recogniser {
         ensures follows { Follows self.old result self.new }
         ensures none { result ≡ None → self.new ≡ self.old }
         ensures quiet { has_notice self.new.lost ≡ false }
+        ensures coming { coming self.new.memory ≡ coming self.old.memory }
         ensures idle { IsQuiet self.old → result ≡ None }
+        ensures other { IfSome result (λ event. ¬ (IsOfLine event)) }
         ensures stands { Stands self.old → Stands self.new }
         ensures lost { IsLostOr self.old → IsLostOr self.new }
         ensures place { StaysPlaced self.old self.new }
@@ -146,8 +156,10 @@ impl Recogniser {
             → Waits self.new × IfSome result (λ event. IsRight self.new event) }
         ensures follows { Follows self.old result self.new }
         ensures none { result ≡ None → self.new ≡ self.old }
+        ensures coming { coming self.new.memory ≡ coming self.old.memory }
         ensures idle { IsTold self.old.memory → result ≡ None }
         ensures notice { self.new.lost ≡ self.old.lost }
+        ensures other { IfSome result (λ event. ¬ (IsOfLine event)) }
         ensures stands { Stands self.old → Stands self.new }
         ensures lost { IsLostOr self.old → IsLostOr self.new }
         ensures place { StaysPlaced self.old self.new }
@@ -177,7 +189,9 @@ impl Recogniser {
         ensures follows { Follows self.old result self.new }
         ensures none { result ≡ None → self.new ≡ self.old }
         ensures quiet { has_notice self.new.lost ≡ false }
+        ensures coming { coming self.new.memory ≡ coming self.old.memory }
         ensures idle { has_notice self.old.lost ≡ false → result ≡ None }
+        ensures other { IfSome result (λ event. ¬ (IsOfLine event)) }
         ensures stands { Stands self.old → Stands self.new }
         ensures lost { IsLostOr self.old → IsLostOr self.new }
         ensures place { StaysPlaced self.old self.new }
@@ -205,6 +219,8 @@ impl Recogniser {
         ensures todo { IsAsBefore self.old self.new }
         ensures here { self.new.here ≡ self.old.here }
         ensures returned { self.new.returned ≡ self.old.returned }
+        ensures found { self.new.lost ≢ Lost.Reported }
+        ensures only { self.new ≡ record self.old { lost = self.new.lost } }
     {
         match self.lost {
             Lost::Now(_) => self.lost = Lost::No,
@@ -222,10 +238,14 @@ impl Recogniser {
         ensures result { IsOfLine event.now
             → HasResult (has_result self.old.over) event.now (has_result self.new.over) }
         ensures lost { self.new.lost ≡ self.old.lost }
+        ensures coming { coming self.new.memory ≡ coming self.old.memory }
         ensures stands { IsMeant self.old → TakesBack 4 self.old → Stands self.new }
+        ensures there { (self.new.here ≡ self.old.here) ⊎ IsAtAnswer self.new }
         ensures place { StaysPlaced self.old self.new }
         ensures shown { StaysShown self.old self.new }
         ensures sure { KeepsSure self.old self.new }
+        ensures ends { IsTold self.old.memory → IfSome (last_of self.new.memory)
+            (λ step. MustEnd step → EndsByRules self.old.since step self.new.ended) }
     {
         match event {
             Event::Begun(_, _) | Event::Back(_) => self.over = Over::No,
@@ -239,8 +259,10 @@ impl Recogniser {
 
     // The result of the line's last state, if it was just reported.
     fn end_of_line(&self) -> Option<(GameResult, Over)>
-        ensures { IfSome result (λ end. (step : Step) × (last_of self.now.memory ≡ Some step)
+        ensures is { IfSome result (λ end. (step : Step) × (last_of self.now.memory ≡ Some step)
             × EndsBy end.1 self.now.view step end.0) }
+        ensures ends { IfSome (last_of self.now.memory)
+            (λ step. MustEnd step → EndsByRules self.now.since step result) }
     {
         let node = self.memory.line.get(0)?;
         end_by_rules(node, self.since)
@@ -253,8 +275,10 @@ impl Recogniser {
         ensures lost { self.new.lost ≡ self.old.lost }
         ensures coming { coming self.new.memory ≡ coming self.old.memory }
         ensures stands { IsTold self.old.memory → EndsHere self.old → Stands self.new }
+        ensures there { (self.new.here ≡ self.old.here) ⊎ IsAtAnswer self.new }
         ensures place { StaysPlaced self.old self.new }
         ensures sure { KeepsSure self.old self.new }
+        ensures line { self.new.memory.line ≡ self.old.memory.line }
     {
         if let Some(node) = self.memory.take_answer() {
             if node.step.way != Way::Begun || node.origin == Origin::Start {
@@ -267,8 +291,10 @@ impl Recogniser {
 
 // The result of a state that was just reported, if it has no legal move.
 fn end_by_rules(node: &Node, since: u64) -> Option<(GameResult, Over)>
-    ensures { IfSome result (λ end. (end.1 ≡ Over.Rules since)
+    ensures is { IfSome result (λ end. (end.1 ≡ Over.Rules since)
         × ByRules node.now.step.state end.0) }
+    ensures none { result ≡ None
+        → (node.now.step.way ≡ Way.Begun) ⊎ CanMove node.now.step.state }
 {
     if node.step.way == Way::Begun || node.step.state.can_move() {
         return None;

@@ -4,7 +4,8 @@ use Rattle.std.{proofs.{Common.{option_to_list, rules}, lemmas.{Grind.{flat_map-
 use Rattle.dgt_values.{specs.{Board.{piece_code}, declared.{pieces.Piece.{Piece}, positions.Position.{Position}, squares.Square.{Square}}}, proofs.PieceCodes.{same_code}}
 use Rattle.dgt_message.specs.{Content.{Content, content, Content.{dump, field}}, Picture.{picture_after, picture_after_all}, declared.message.Message.{Message}}
 use Rattle.dgt_host.specs.Confirmed.{same_pieces, differ, changes, repeats, confirmed_after, confirmed_after_all, AllLeave, Passage, Whole, Faulty, sent, heard, faults_after, faults_after_all}
-use Rattle.dgt_host.specs.Confirmed.{IsRight, ConfirmedWasReported, ConfirmedIsReported, TwoFaultsSuffice, LateFaultsSuffice, UnconfirmedIsWrong, ConfirmedByDump, ChangesIsExact, FaultlessIsRight}
+use Rattle.dgt_host.specs.Confirmed.{IsRight, ConfirmedWasReported, ConfirmedIsReported, TwoFaultsSuffice, LateFaultsSuffice, UnconfirmedIsWrong, ConfirmedByDump, ChangesIsExact}
+use Rattle.dgt_host.specs.Confirmed.{FaultlessIsRight, LeavingIsExact}
 
 -- ---- Booleans
 
@@ -168,6 +169,13 @@ pub pictures_append : (picture : Option (List Piece)) (said more : List Content)
     ≡ picture_after_all (picture_after_all picture said) more
 pictures_append picture [] more = refl
 pictures_append picture (m ∷ said) more = pictures_append (picture_after picture m) said more
+
+pub leaving_exact : LeavingIsExact
+leaving_exact pieces [] = (λ all. all, λ all. all)
+leaving_exact pieces (m ∷ said) = let more = leaving_exact pieces said in (
+  λ all. (unchanged pieces m all.0, more.0 all.1),
+  λ all. (rw all.0 (unmoved (Some pieces)), more.1 all.1),
+)
 
 all_leave : (pieces : List Piece) (said : List Content) → AllLeave pieces said
     → picture_after_all (Some pieces) said ≡ Some pieces

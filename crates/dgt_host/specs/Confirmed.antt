@@ -67,6 +67,13 @@ confirmed_after_all confirmed picture (said ∷ more) =
 abbrev pub AllLeave : List Piece → List Content → Type 0
 AllLeave pieces said = AllByRecursion (λ one. IsFalse (changes (Some pieces) one)) said
 
+-- in plain words: each leaves the picture as it is
+abbrev pub LeavingIsExact : Type 0
+LeavingIsExact =
+    (pieces : List Piece) (said : List Content) →
+    AllLeave pieces said
+    ↔ AllByRecursion (λ one. picture_after (Some pieces) one ≡ Some pieces) said
+
 -- ---- a line with faults
 
 -- The effect of a line on a message. A faulty passage alters a message that the board sent, loses

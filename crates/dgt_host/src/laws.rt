@@ -10,7 +10,7 @@ ghost use Rattle.dgt_message.specs.Encoding.{encoding};
 ghost use Rattle.dgt_decode.specs.Feeding.{event_content_if_any};
 ghost use Rattle.dgt_decode.specs.Grammar.{Event, Placed, shifted, unfinished_message};
 ghost use Rattle.dgt_message.specs.Picture.{clock_after_all, picture_after_all};
-ghost use Rattle.dgt_host.specs.Confirmed.{Ends, ChangesIsExact, ConfirmedByDump, ConfirmedIsReported, ConfirmedWasReported, FaultlessIsRight, IsRight, LateFaultsSuffice, Passage, StretchIsOne, TwoFaultsSuffice, UnconfirmedIsWrong, changes, confirmed_after, faults_after, heard_in, repeats, sent_in, AllLeave, faults_after_all, heard, sent};
+ghost use Rattle.dgt_host.specs.Confirmed.{Ends, ChangesIsExact, ConfirmedByDump, ConfirmedIsReported, ConfirmedWasReported, FaultlessIsRight, IsRight, LateFaultsSuffice, LeavingIsExact, Passage, StretchIsOne, TwoFaultsSuffice, UnconfirmedIsWrong, changes, confirmed_after, faults_after, heard_in, repeats, sent_in, AllLeave, faults_after_all, heard, sent};
 ghost use Rattle.dgt_host.specs.declared.sending.SendFault.{SendFault as Fault};
 ghost use Rattle.dgt_host.specs.Host.{HeardInChunks, HostView, Request, Sends, host_after, host_after_events, host_after_message};
 
@@ -92,12 +92,14 @@ pub fn changes_are_exact()
 
 /// What a confirmed picture is, after at most one fault of the line: if that happened since the
 /// last whole dump, the picture is what the board had reported when it sent the confirming dump. It
-/// is all that the board has reported if the board has repeated that.
+/// is all that the board has reported if the board has repeated that. Messages after the confirming
+/// dump may be of any kind that leaves the picture as it is.
 pub fn one_fault_is_seen()
     ensures was { ConfirmedWasReported }
     ensures is { ConfirmedIsReported }
     ensures dump { ConfirmedByDump }
     ensures right { FaultlessIsRight }
+    ensures leave { LeavingIsExact }
 {}
 
 /// So it is if the dump that confirms is the only fault since the last whole dump: then the picture

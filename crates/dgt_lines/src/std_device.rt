@@ -2,12 +2,25 @@
 
 ghost use Rattle.std.specs.Prelude.{◌≤◌, length, IfOk};
 ghost use Rattle.std.specs.Io.KnownBytes.{Keeps, ReadConsumes, WriteAppends};
+ghost use Rattle.dgt_lines.specs.Device.{IsSettled};
 
 use crate::streams::{Failed, Sink, Source};
-use std::io::{ErrorKind, Read, Write};
+use std::fmt::Display;
+use std::io::{self, ErrorKind, Read, Write};
 
 // How often a call that is interrupted each time is made, at most.
 const MAX_TRIES: u32 = 1 << 20;
+
+// What a call of a reader or a writer returned, or nothing if it was interrupted.
+fn settled<V>(given: io::Result<V>) -> Option<Result<V, Failed>>
+    ensures { IsSettled given result }
+{
+    match given {
+        Ok(value) => Some(Ok(value)),
+        Err(error) if error.kind() == ErrorKind::Interrupted => None,
+        Err(_) => Some(Err(Failed)),
+    }
+}
 
 // A read, made again if it is interrupted.
 fn read_retrying<T: Read>(reader: &mut T, buffer: &mut [u8]) -> Result<usize, Failed>
@@ -16,10 +29,8 @@ fn read_retrying<T: Read>(reader: &mut T, buffer: &mut [u8]) -> Result<usize, Fa
         buffer.new }
 {
     for _ in 0..MAX_TRIES {
-        match reader.read(buffer) {
-            Ok(given) => return Ok(given),
-            Err(error) if error.kind() == ErrorKind::Interrupted => {}
-            Err(_) => return Err(Failed),
+        if let Some(result) = settled(reader.read(buffer)) {
+            return result;
         }
     }
     Err(Failed)
@@ -31,10 +42,8 @@ fn write_retrying<T: Write>(writer: &mut T, bytes: &[u8]) -> Result<usize, Faile
     ensures bytes { WriteAppends (T.contents writer.old) (T.contents writer.new) result bytes.now }
 {
     for _ in 0..MAX_TRIES {
-        match writer.write(bytes) {
-            Ok(taken) => return Ok(taken),
-            Err(error) if error.kind() == ErrorKind::Interrupted => {}
-            Err(_) => return Err(Failed),
+        if let Some(result) = settled(writer.write(bytes)) {
+            return result;
         }
     }
     Err(Failed)
@@ -45,10 +54,8 @@ fn flush_retrying<T: Write>(writer: &mut T) -> Result<(), Failed>
     ensures { Keeps (T.contents writer.old) (T.contents writer.new) }
 {
     for _ in 0..MAX_TRIES {
-        match writer.flush() {
-            Ok(()) => return Ok(()),
-            Err(error) if error.kind() == ErrorKind::Interrupted => {}
-            Err(_) => return Err(Failed),
+        if let Some(result) = settled(writer.flush()) {
+            return result;
         }
     }
     Err(Failed)
@@ -87,6 +94,35 @@ impl<T> Device<T> {
             reads: 0,
             flushed: true,
             late: false,
+        }
+    }
+}
+
+impl<T: Write> Device<T> {
+    ghost use Rattle.std.specs.Prelude.{◌≡◌, IfSome, IsTrue, OnErr, OnOk, false};
+    ghost use Rattle.std.specs.Io.KnownBytes.{Appends};
+    ghost use Rattle.dgt_lines.specs.Device.{device_failed, device_flushed, device_inner, device_late};
+
+    /// Writes a text, without a flush. Any failure counts as a refusal, and may come after a part
+    /// of the text.
+    pub fn print<D: Display>(&mut self, text: &D) -> Result<(), Failed>
+        ensures printed { OnOk result (IfSome (D.output text.now)
+            (Appends (T.contents (device_inner self.old)) (T.contents (device_inner self.new)))) }
+        ensures refused { OnErr result (IsTrue (device_failed self.new)) }
+        ensures not_refused { OnOk result (device_failed self.new ≡ device_failed self.old) }
+        ensures unflushed { device_flushed self.new ≡ false }
+        ensures in_time { device_failed self.old ≡ false →
+            device_late self.new ≡ device_late self.old }
+        ensures after_refusal { IsTrue (device_failed self.old) → IsTrue (device_late self.new) }
+    {
+        self.late = self.late || self.failed;
+        self.flushed = false;
+        match write!(self.inner, "{text}") {
+            Ok(()) => Ok(()),
+            Err(_) => {
+                self.failed = true;
+                Err(Failed)
+            }
         }
     }
 }

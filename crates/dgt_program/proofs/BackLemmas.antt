@@ -112,7 +112,7 @@ display_choice a b c d e f g h are false is = inl (has_payload KnownId.Display 7
 display_choice a b c d e f g h are true is =
     let outer = both _ (h == 0) is in let inner = both _ (g == 0) outer.0 in
     inr (
-      refl,
+      omega arith,
       (
         λ i. nth (c ∷ b ∷ a ∷ f ∷ e ∷ d ∷ []) i,
         all_shown (c ∷ b ∷ a ∷ f ∷ e ∷ d ∷ []) inner.0,
@@ -143,8 +143,11 @@ text_choice : (a b c d e f g h i : ℕ) → AreBytes (a ∷ b ∷ c ∷ d ∷ e 
 text_choice a b c d e f g h i are false is = inl (has_payload KnownId.Text 8 _ are refl)
 text_choice a b c d e f g h i are true is =
     let parts = both _ (i == 0) is in
-    inr
-    (refl, ascii_all (a ∷ b ∷ c ∷ d ∷ e ∷ f ∷ g ∷ h ∷ []) parts.0, rw (eqb-true i 0 parts.1) refl)
+    inr (
+      omega arith,
+      ascii_all (a ∷ b ∷ c ∷ d ∷ e ∷ f ∷ g ∷ h ∷ []) parts.0,
+      rw (eqb-true i 0 parts.1) refl,
+    )
 
 text_back : (payload : List ℕ) → AreBytes payload → length payload ≡ 9
     → IsText (text_word payload) (known_clock KnownId.Text payload)

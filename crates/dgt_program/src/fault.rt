@@ -1,18 +1,19 @@
 //! The faults that end the program, and their texts.
 
-ghost use Rattle.std.specs.Prelude.{◌≡◌, OnOk, Some};
+ghost use Rattle.std.specs.Prelude.{◌≡◌, IsTrue, OnErr, OnOk, Some, false};
 ghost use Rattle.std.specs.Io.KnownBytes.{Appends};
+ghost use Rattle.dgt_lines.specs.Device.{device_failed, device_flushed, device_inner};
 ghost use Rattle.dgt_program.specs.Faults.{IsOfWords, IsOfWorld, fault_lines, fault_status, fault_text};
 ghost use Rattle.dgt_program.specs.declared.fault.Fault.{Fault as AnyFault};
 
 use dgt_ask::BadArguments;
 use dgt_link::WorldFault;
-use dgt_text::RunFault;
+use dgt_text::{Device, Failed, RunFault, Sink};
 use dgt_values::BadPlacement;
 use std::alloc::{AllocError, AllocFailed};
 use std::error::Error;
 use std::fmt;
-use std::io::{self, Write};
+use std::io::Write;
 
 /// Why the program stopped before its work was done.
 #[derive(Debug, Drop)]
@@ -105,13 +106,17 @@ impl From<AllocFailed<String>> for Fault {
 }
 
 impl Fault {
-    /// Reports the fault to the user, and returns the exit status.
-    pub fn report<E: Write>(self, errors: &mut E) -> u8
-        ensures { result ≡ fault_status self }
+    /// Reports the fault to the user, and returns the exit status. If the device refuses a call,
+    /// only the status reports the fault.
+    pub fn report<E: Write>(self, errors: &mut Device<E>) -> u8
+        ensures status { result ≡ fault_status self }
+        ensures lines { device_failed errors.new ≡ false →
+            Appends (E.contents (device_inner errors.old)) (E.contents (device_inner errors.new))
+            (fault_lines self) }
+        ensures flushed { device_failed errors.new ≡ false → IsTrue (device_flushed errors.new) }
     {
-        // If standard error refuses the text, only the status reports the fault.
         let _ = self.write_lines(errors);
-        let _ = errors.flush();
+        let _ = errors.flush_all();
         match self {
             Fault::Run(_) => 1,
             Fault::CommandLine { .. }
@@ -122,13 +127,15 @@ impl Fault {
         }
     }
 
-    fn write_lines<E: Write>(&self, errors: &mut E) -> io::Result<()>
-        ensures { OnOk result (Appends (E.contents errors.old) (E.contents errors.new)
+    fn write_lines<E: Write>(&self, errors: &mut Device<E>) -> Result<(), Failed>
+        ensures lines { OnOk result
+            (Appends (E.contents (device_inner errors.old)) (E.contents (device_inner errors.new))
             (fault_lines self.now)) }
+        ensures refused { OnErr result (IsTrue (device_failed errors.new)) }
     {
         match self {
-            Fault::CommandLine { text } => write!(errors, "{text}"),
-            fault => writeln!(errors, "dgt: {fault}"),
+            Fault::CommandLine { text } => errors.print(text),
+            fault => errors.print(&format_args!("dgt: {fault}\n")),
         }
     }
 }

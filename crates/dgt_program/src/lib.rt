@@ -11,7 +11,7 @@
 //!             note_terminals(&rt, words.as_slice());
 //!             run_words(alloc, words, rt.stdin(), rt.stdout(), rt.stderr())
 //!         }
-//!         Err(fault) => fault.report(&mut rt.stderr()),
+//!         Err(fault) => fault.report(&mut Device::new(rt.stderr())),
 //!     };
 //! ```
 #![tactic(auto)]

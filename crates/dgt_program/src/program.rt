@@ -47,7 +47,7 @@ pub fn run_to_status<I: Read + Drop, O: Write + Drop, E: Write + Drop>(
     task: Result<Task<'_>, BadArguments>,
     input: I,
     output: O,
-    mut errors: E,
+    errors: E,
 ) -> u8
     ensures status { MatchResult task.entry
         (λ task. (source : Change (Device I)) × (sink : Change (Device O))
@@ -61,7 +61,7 @@ pub fn run_to_status<I: Read + Drop, O: Write + Drop, E: Write + Drop>(
     let (mut input, mut output) = (Device::new(input), Device::new(output));
     match run(alloc, task, &mut input, &mut output) {
         Ok(()) => 0,
-        Err(fault) => fault.report(&mut errors),
+        Err(fault) => fault.report(&mut Device::new(errors)),
     }
 }
 

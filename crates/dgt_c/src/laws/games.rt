@@ -1,6 +1,6 @@
 //! Laws of what arguments and structs of C say of games.
 
-ghost use Rattle.std.specs.Prelude.{◌≡◌, ◌∷◌, ◌≤◌, [], ℕ, Bool, List, None, Some, length, map, take};
+ghost use Rattle.std.specs.Prelude.{◌≡◌, ◌∷◌, ◌≤◌, [], ℕ, Bool, false, IsTrue, List, Option, None, Some, length, map, take};
 ghost use Rattle.dgt_values.specs.Board.{piece_code, pieces_of};
 ghost use Rattle.dgt_values.specs.declared.positions.Position.{Position};
 ghost use Rattle.dgt_chess.specs.declared.pieces.Colour.{Colour};
@@ -9,12 +9,17 @@ ghost use Rattle.dgt_chess.specs.declared.state.State.{State};
 ghost use Rattle.dgt_game.specs.declared.event.Event.{Event};
 ghost use Rattle.dgt_game.specs.declared.event.GameResult.{GameResult};
 ghost use Rattle.dgt_game.specs.declared.event.Moves.{Moves};
+ghost use Rattle.dgt_game.specs.declared.observation.Observation.{Observation};
 ghost use Rattle.dgt_game.specs.declared.observation.Sight.{Sight};
+ghost use Rattle.dgt_game.specs.declared.recogniser.Recogniser.{Recogniser};
 ghost use Rattle.dgt_game.specs.Lines.{moves_of};
+ghost use Rattle.dgt_game.specs.Runs.{Call, Does};
 ghost use Rattle.dgt_c.specs.Chess.{SaysMove, SaysState};
 ghost use Rattle.dgt_c.specs.Games.{SaysSight, game_event_reported, move_reported, moves_reported, result_number, side_number, state_reported};
 ghost use Rattle.dgt_c.specs.GamesOnce.{OneObservation, OneSight};
 ghost use Rattle.dgt_c.specs.Hearing.{flag};
+ghost use Rattle.dgt_c.specs.Recognisers.{HasGoneOn, HasSeen, HasTold, Writes};
+ghost use Rattle.dgt_c.specs.declared.header.DgtGameEvent.{DgtGameEvent};
 ghost use Rattle.dgt_c.specs.declared.header.TheConstants.{NO_CHESS_MOVE, NO_GAME_EVENT};
 
 /// Arguments describe at most one observation.
@@ -76,4 +81,20 @@ pub fn said_parts()
     ensures moves { (moves : List Move) → length moves ≤ 4
         → (length (moves_reported moves) ≡ 4)
         × (take (length moves) (moves_reported moves) ≡ map move_reported moves) }
+{}
+
+/// Calls of a recogniser are calls of a run of [`dgt_game`], of which
+/// [`dgt_game::laws::reports_are_legal`] says what it reports.
+pub fn calls_are_runs()
+    ensures sees { (old new : Recogniser) (seen : Observation) → HasSeen old seen new
+        → Does old (Call.See seen.sight) new }
+    ensures tells { (old new : Recogniser) (now : ℕ) (told : Option Event)
+        → HasTold now old told new → Does old (Call.Due told) new }
+    ensures goes_on { (old new : Recogniser) (state : State) (is_turned : Bool)
+        → HasGoneOn state is_turned new → Does old (Call.GoOn state is_turned) new }
+    ensures writes { (told : Option Event) (result : Bool) (old new : DgtGameEvent)
+        → Writes told result old new
+        → (IsTrue result
+        → (event : Event) × (told ≡ Some event) × (new ≡ game_event_reported event))
+        × (result ≡ false → (told ≡ None) × (new ≡ old)) }
 {}

@@ -1,5 +1,5 @@
 use Rattle.{std.{proofs.Common.{◌≡◌, ◌≢◌, ◌++◌, List, ℕ, [], arith, inl, inr, length, refl, suc, rules}, specs.{Fmt.{digits as decimal_digits}, Prelude.{codes, Ok}}}, hex.specs.Hex.{decode_of}}
-use Rattle.{hex.specs.Hex.{decode_pairs}, dgt_ask.specs.Asks.{HasBytes}}
+use Rattle.{hex.specs.Hex.{decode_pairs}, dgt_ask.{specs.Asks.{HasBytes}, proofs.AskLemmas.{full}}}
 use Rattle.dgt_ask.specs.declared.details.Detail.TheVariants as detail
 use Rattle.dgt_ask.proofs.laws.details_ask.Goals as goal
 
@@ -17,16 +17,18 @@ unfolding decimal_digits
 returns-clause-beep c = inr (detail.Beep, codes "255", refl, (255, omega arith, refl, refl))
 
 pub returns-clause-display : goal.returns-clause-display
-returns-clause-display c letters message six shows =
-    inr (detail.Display, letters, refl, inr (six, shows))
+returns-clause-display c letters message sized shows =
+    inr
+    (detail.Display, letters, refl, inr (omega (arith, sized), rw (full 6 letters sized) shows))
 
 pub returns-clause-display_bytes : goal.returns-clause-display_bytes
 returns-clause-display_bytes c digits bytes read =
     inr (detail.Display, digits, refl, inl (bytes, read, refl))
 
 pub returns-clause-text : goal.returns-clause-text
-returns-clause-text c letters eight ascii =
-    inr (detail.Text, letters, refl, inr (eight, ascii, refl))
+returns-clause-text c letters sized ascii =
+    inr
+    (detail.Text, letters, refl, inr (omega (arith, sized), ascii, rw (full 8 letters sized) refl))
 
 pub returns-clause-text_bytes : goal.returns-clause-text_bytes
 returns-clause-text_bytes c digits bytes read =

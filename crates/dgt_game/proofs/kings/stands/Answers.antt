@@ -10,5 +10,5 @@ loop-at-preserved c =
       | then-not-fits+else-has_other w ↦ rw w.has_other-is (fitting_but picture pieces at.at
           at.has_other w.if-has_other.false at.invariant)
       | else-not-fits w ↦ rw w.has_other-is (fitting_more picture pieces at.at at.has_other
-          (c.fits.ensures w.if-not-fits.false) at.invariant)
+          (c.fits.ensures.0 w.if-not-fits.false) at.invariant)
     ]

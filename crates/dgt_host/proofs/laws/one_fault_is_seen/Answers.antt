@@ -1,4 +1,4 @@
-use Rattle.dgt_host.proofs.ConfirmedLemmas.{by_dump, confirmed_is, confirmed_was, faultless}
+use Rattle.dgt_host.proofs.ConfirmedLemmas.{by_dump, confirmed_is, confirmed_was, faultless, leaving_exact}
 use Rattle.dgt_host.proofs.laws.one_fault_is_seen.Goals as goal
 
 pub returns-clause-was : goal.returns-clause-was
@@ -12,3 +12,6 @@ returns-clause-dump c = by_dump
 
 pub returns-clause-right : goal.returns-clause-right
 returns-clause-right c = faultless
+
+pub returns-clause-leave : goal.returns-clause-leave
+returns-clause-leave c = leaving_exact

@@ -79,3 +79,10 @@ returns-clause-sure c = λ sure gone h.
       waits = h.waits;
       ends = h.ends;
     }
+
+pub returns-clause-follows : goal.returns-clause-follows
+returns-clause-follows c = (
+  c.push.ensures.items
+      ∙ ap (λ (xs : List Node). xs ++ c.after_line-new.result ∷ []) c.clear.ensures,
+  ap (λ (s : Step). s.parent) c.after_line-new.ensures.step,
+)

@@ -1,5 +1,5 @@
 use Rattle.dgt_game.{proofs.Chains.{same_some, before_later, get_step}, specs.{declared.node.{Node.{Node}, Place.{Place}, Way.{Way}}, Memory.{IsBefore, IsRooted, IsTold, step_at, steps}}}
-use Rattle.dgt_game.{specs.Standing.{IsCalledFor, ShowsAs, StandsAt, StandsOn}, proofs.{Standing.{but_as, found_of, of_some, resting, shows_as, shows_but, shows_moved, some_view}, Sure.{parent_sure}}}
+use Rattle.dgt_game.{specs.Standing.{IsCalledFor, ShowsAs, StandsAt, StandsOn}, proofs.{Standing.{found_of, lacks_as, of_some, resting, shows_as, shows_moved, some_view}, Sure.{parent_sure}}}
 use Rattle.std.{proofs.{lemmas.Option.{slice_get_within}, Common.{◌≡◌, ◌∙◌, ap, inl, inr, arith, refl, sym, length, false, Some}}, specs.Prelude.{◌≢◌, slice_get}}
 use Rattle.dgt_game.proofs.recogniser.Recogniser.add.Goals as goal
 
@@ -9,7 +9,7 @@ returns-then-is_answer-clause-stands c = λ view ready seen.
     let lines = steps m.line.items in
     let items = steps m.seen.items in
     let k = c.in-Some.k in
-    let node = c.args.node in
+    let node : Node = record c.args.node { is_held = c.args.is_held } in
     let new = c.in-Some-seen_node.new in
     let push = c.push.ensures in
     let rooted : IsRooted (length lines) items = push.rooted ready.2 in
@@ -41,8 +41,8 @@ returns-then-is_answer-clause-stands c = λ view ready seen.
       λ counts. shows_moved view node new kept.0 step held shown,
     )) in
     let next : c.tell.new.self.is_next ≡ false = c.tell.ensures.todo.2 in (
-      λ shows. main (shows_as view node shows),
-      λ shown. let all = main shown in (
+      λ put shows. main (shows_as view node put shows),
+      λ lacks but. let all = main (lacks_as view node lacks but) in (
         rw next at all.0,
         all.1,
         elim all.2 [
@@ -95,20 +95,18 @@ returns-else-self-clause-stands c = λ view ready seen.
     let m = c.push.new.self in
     let items = steps m.seen.items in
     let is_sure = c.args.self.now.is_sure in
-    let node = c.args.node in
     let push = c.push.ensures in
     let kept = c.in-Some.ensures.seen in
     let told : IsTold m = (push.back ∙ ready.0.0, push.unsaid ∙ ready.0.1) in
     let none = push.answer ∙ ready.1 in (
-      λ shows. resting m told none (some_view view _ (StandsAt (Place.Seen c.in-Some.k) m is_sure
-          is_sure) seen (of_some (slice_get items c.in-Some.k) _ (StandsOn is_sure is_sure view)
-          kept.1 (λ e. shows, λ sure next. shows_but view node.step shows))),
-      λ shown. resting m told none (some_view view _ (StandsAt (Place.Seen c.in-Some.k) m false
+      λ put shows. resting m told none (some_view view _ (StandsAt (Place.Seen c.in-Some.k) m
+          is_sure is_sure) seen (of_some (slice_get items c.in-Some.k) _
+          (StandsOn is_sure is_sure view) kept.1 (λ e. shows, λ sure next. absurd (cc)))),
+      λ lacks but. resting m told none (some_view view _ (StandsAt (Place.Seen c.in-Some.k) m false
           is_sure) seen (of_some (slice_get items c.in-Some.k) _ (StandsOn false is_sure view)
           kept.1 (
             (λ e. absurd (cc)),
-            λ sure next. but_as view node
-                node.is_held refl shown,
+            λ sure next. but,
           ))),
     )
 

@@ -1,4 +1,4 @@
-use Rattle.{std.proofs.{lemmas.Option.{slice_get_within}, Common.{rules, ◌∙◌, arith}}, dgt_game.{specs.{declared.node.Place.{Place}, Memory.{steps}}, proofs.Told.{links_after}}}
+use Rattle.{std.proofs.{lemmas.Option.{slice_get_within}, Common.{rules, ◌∙◌, arith, refl}}, dgt_game.{specs.{declared.node.Place.{Place}, Memory.{steps}}, proofs.Told.{links_after}}}
 use Rattle.dgt_game.proofs.recogniser.Recogniser.add_two.Goals as goal
 
 pub returns-clause-holds : goal.returns-clause-holds
@@ -29,7 +29,7 @@ returns-clause-stands c = λ view ready seen shows.
       (push.back ∙ ready.0.0, push.unsaid ∙ ready.0.1),
       push.answer ∙ ready.1,
       push.rooted ready.2,
-    ) seen).0 shows
+    ) seen).0 refl shows
 
 pub returns-clause-here : goal.returns-clause-here
 returns-clause-here c = λ few room.

@@ -1,5 +1,5 @@
 use Rattle.{std.{proofs.Common.{rules, ◌∙◌, inl, length}, specs.Prelude.{slice_get}}, dgt_game.specs.{declared.node.Place.{Place}, Memory.{IsBefore, IsRooted, steps, told_of}, Standing.{IsCalledFor}}}
-use Rattle.dgt_game.proofs.{Standing.{if_some, of_some, shows_as}, Told.{rooted_none}, Links.{begins, root_links}, Sure.{shown_sure}}
+use Rattle.dgt_game.proofs.{Standing.{both, if_some, of_some, shows_as}, Told.{rooted_none}, Links.{begins, root_links}, Sure.{shown_sure}}
 use Rattle.dgt_game.proofs.recogniser.Recogniser.begin.Goals as goal
 
 pub returns-in-Some-push-clause-holds : goal.returns-in-Some-push-clause-holds
@@ -36,7 +36,8 @@ returns-in-Some-push-clause-stands c = λ rooted told sure fits stands.
     ) sure (if_some c.args.self.now.view _ (IsCalledFor new (Place.Seen c.in-Some-push.k)
     c.in-Some.other) c.in-Some.ensures.at (λ view shown. (
       of_some (slice_get (steps new.seen.items) c.in-Some-push.k) _ _ at.1 (inl shown.0),
-      if_some c.in-Some.other _ _ shown.1 (λ node shows. λ counts. shows_as view node shows),
+      if_some c.in-Some.other _ _ (both c.in-Some.other _ _ shown.1 c.in-Some.ensures.whole)
+          (λ node shows. λ counts. shows_as view node shows.1 shows.0),
     )))
 
 pub returns-in_default-push-clause-hopeless : goal.returns-in_default-push-clause-hopeless

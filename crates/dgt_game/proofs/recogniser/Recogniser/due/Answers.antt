@@ -56,8 +56,12 @@ loop-done-preserved c =
     let is = (tells.3 refl).0 in
     let act = c.act.ensures in
     let new : Recogniser = record c.act.new.self { next = c.if-done-lt2.self } in
-    let acts = acts_with quiet c.act.new.self c.if-done-lt2.self (act.stays, act.right, act.follows)
-    in
+    let acts = acts_with quiet c.act.new.self c.if-done-lt2.self (
+      act.stays,
+      act.right,
+      act.follows,
+      λ plans. act.next (c.in_ok-at.ensures.fits plans),
+    ) in
     let has : HasTask now quiet = search rules in
     record {
       knows = λ shown line knows. acts.0 shown line is.0
@@ -245,3 +249,17 @@ returns-then-at-now-clause-sure c = λ shown line knows plans h sure were.
 pub returns-clause-sure : goal.returns-clause-sure
 returns-clause-sure c = λ shown line knows plans h sure were.
     c.report-2.ensures.sure sure (c.loop-done.invariant.sure shown line knows plans h sure were)
+
+pub returns-in-Some-clause-there : goal.returns-in-Some-clause-there
+returns-in-Some-clause-there c = λ shown line knows plans h waits.
+    c.in-Some.ensures.there (c.loop-done.invariant.stands shown line knows plans h)
+    (c.loop-done.invariant.waits waits).0
+
+pub returns-in_err-at-clause-there : goal.returns-in_err-at-clause-there
+returns-in_err-at-clause-there c = λ shown line knows plans h waits.
+    let none : c.from_residual.result ≡ None = search rules in rw none tt
+
+pub returns-clause-there : goal.returns-clause-there
+returns-clause-there c = λ shown line knows plans h waits.
+    c.report-2.ensures.there (c.loop-done.invariant.stands shown line knows plans h)
+    (c.loop-done.invariant.waits waits).0

@@ -61,3 +61,18 @@ returns-clause-reads c = λ live (j, some, few, here).
       c.loop-k-test.false,
       shown_within c.args.self.now.memory c.args.view.now j here,
     )) here
+
+pub returns-then-is-clause-last : goal.returns-then-is-clause-last
+returns-then-is-clause-last c = λ j live some here.
+    at_least (λ j. ShowsAt c.args.self.now.memory c.args.view.now (Place.Line j)) c.loop-k.k j
+    c.loop-k.invariant some here
+
+pub returns-clause-last : goal.returns-clause-last
+returns-clause-last c = λ j live some here.
+    let size : c.len-k-end.result ≡ length c.args.self.now.memory.line.items = search rules in
+    c.loop-k.invariant j some (omega (
+      arith,
+      size,
+      c.loop-k-test.false,
+      shown_within c.args.self.now.memory c.args.view.now j here,
+    )) here

@@ -3,7 +3,7 @@ use Rattle.dgt_game.proofs.recogniser.Recogniser.end_before_next.Goals as goal
 
 pub returns-clause-right : goal.returns-clause-right
 returns-clause-right c = λ h.
-    let end = c.in_ok-result.ensures in (
+    let end = c.in_ok-result.ensures.is in (
       (h.0, h.1),
       (
         end.0,

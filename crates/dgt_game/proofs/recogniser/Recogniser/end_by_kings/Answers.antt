@@ -59,12 +59,18 @@ by_kings c =
     (step, (c.in-Some-kings_result.result, (c.in-Some.view, end.keeps.0 ∙ c.in-Some.is, by)))
 
 pub returns-then-is_there-clause-hopeless : goal.returns-then-is_there-clause-hopeless
-returns-then-is_there-clause-hopeless c = λ why view e here search.
-    inr (inr (by_kings (goal.at.returns-then-is_there-clause-hopeless c).After-end_at-is_there))
+returns-then-is_there-clause-hopeless c = λ why view e here. (
+  λ hopeless. inr (by_kings
+      (goal.at.returns-then-is_there-clause-hopeless c).After-end_at-is_there),
+  λ refused. absurd (cc),
+)
 
 pub returns-else-is_there-clause-hopeless : goal.returns-else-is_there-clause-hopeless
-returns-else-is_there-clause-hopeless c = λ why view e here search.
-    inr (inr (by_kings (goal.at.returns-else-is_there-clause-hopeless c).After-end_at-is_there))
+returns-else-is_there-clause-hopeless c = λ why view e here. (
+  λ hopeless. inr (by_kings
+      (goal.at.returns-else-is_there-clause-hopeless c).After-end_at-is_there),
+  λ refused. absurd (cc),
+)
 
 were_sure : (c : After-end_at-is_there) (sure : List (List Piece))
     → MatchOption c.args.self.now.view ⊥ (λ view. Contains sure (pieces_of view.shown))

@@ -1,6 +1,9 @@
-use Rattle.{std.proofs.{Common.{rules, ◌≡◌, ◌∙◌, [], Some, None, ap, subst}, lemmas.Option.{IfSome_then}}, dgt_game.specs.declared.{event.GameResult.{GameResult}, node.Step.{Step}}}
+use Rattle.dgt_game.specs.Waiting.{EndsByRules, MustEnd, last_of}
+use Rattle.dgt_game.proofs.Waiting.{rules_first}
+use Rattle.{std.proofs.{Common.{rules, ◌≡◌, ◌∙◌, ℕ, [], Some, None, ap, inl, inr, refl, subst}, lemmas.Option.{IfSome_then}}, dgt_game.specs.declared.{event.GameResult.{GameResult}, node.Step.{Step}}}
 use Rattle.dgt_game.{specs.{declared.recogniser.{Over.{Over}, Recogniser.{Recogniser}}, Memory.{IsTold}, Standing.{EndsHere}, Waiting.{EndWaits, EndsBy, coming}}, proofs.Standing.{ends_of}}
 use Rattle.dgt_game.proofs.{Standing.{meant_stands}, Known.{knows_same, memory_of, view_of}, Waiting.{last_comes, or_some}, recogniser.Recogniser.follow_up.Goals.{Joined-event, in_default, in-Begun}}
+use Rattle.std.specs.Prelude.{IfSome}
 use Rattle.dgt_game.proofs.recogniser.Recogniser.follow_up.Goals as goal
 
 -- only whether the line is over may change
@@ -39,7 +42,7 @@ returns-then-is_quiet-clause-right c = λ h.
     let keeps = c.stand_on_last.ensures.keeps in
     let P : GameResult × Over → Type 0 = λ end. (step : Step) × (coming self.memory ≡ Some step)
     × EndsBy end.1 self.view step end.0 in
-    let ends = IfSome_then c.end_of_line.result {Q = P} c.end_of_line.ensures
+    let ends = IfSome_then c.end_of_line.result {Q = P} c.end_of_line.ensures.is
     (λ end h. (h.0, last ∙ h.1, h.2)) in
     let both = or_some c.end_of_line.result self.ended P ends waits in
     rw (keeps.2, c.or-self.ensures, keeps.0, c.stand_on_last.ensures.coming) both
@@ -65,3 +68,39 @@ returns-then-is_quiet-clause-stands c = λ meant back.
       | in-Begun w ↦ rw w.self-is (ends_of c.args.self.now meant)
     ] in
     c.stand_on_last.ensures.stands (c.is_quiet.ensures.0 c.if-is_quiet.true) ends
+
+pub returns-else-is_quiet-clause-there : goal.returns-else-is_quiet-clause-there
+returns-else-is_quiet-clause-there c =
+    elim c.match-event.branch [
+      | in_default w ↦ rw w.self-is (inl refl)
+      | in-Begun w ↦ rw w.self-is (inl refl)
+    ]
+
+pub returns-then-is_quiet-clause-there : goal.returns-then-is_quiet-clause-there
+returns-then-is_quiet-clause-there c =
+    let same : c.match-event.self.here ≡ c.args.self.now.here = elim c.match-event.branch [
+      | in_default w ↦ rw w.self-is refl
+      | in-Begun w ↦ rw w.self-is refl
+    ] in
+    elim c.stand_on_last.ensures.there [
+      | inl here ↦ inl (here ∙ same)
+      | inr answers ↦ inr answers
+    ]
+
+pub returns-then-is_quiet-clause-ends : goal.returns-then-is_quiet-clause-ends
+returns-then-is_quiet-clause-ends c = λ told.
+    let same : (memory_of c.match-event.self ≡ memory_of c.args.self.now)
+    × (c.match-event.self.since ≡ c.args.self.now.since) = elim c.match-event.branch [
+      | in_default w ↦ rw w.self-is (refl, refl)
+      | in-Begun w ↦ rw w.self-is (refl, refl)
+    ] in
+    let last = last_of c.match-event.self.memory in
+    let ends = subst (λ (n : ℕ). IfSome last (λ step. MustEnd step
+    → EndsByRules n step c.end_of_line.result)) same.1 c.end_of_line.ensures.ends in
+    rw (c.stand_on_last.ensures.line, c.stand_on_last.ensures.keeps.2, c.or-self.ensures)
+    (rules_first c.args.self.now.since last c.end_of_line.result c.match-event.self.ended ends)
+
+pub returns-else-is_quiet-clause-ends : goal.returns-else-is_quiet-clause-ends
+returns-else-is_quiet-clause-ends c = λ told.
+    let (memory, view) = kept (goal.at.returns-else-is_quiet-clause-ends c).Joined-event in
+    absurd (search rules)

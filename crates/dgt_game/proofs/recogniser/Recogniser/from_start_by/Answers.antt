@@ -7,4 +7,4 @@ returns-clause-linked c = λ shown seen.
     let (parent, turned, by, here) = c.in_ok-node.ensures.linked in
     started shown (steps memory.line.items) (steps memory.seen.items) c.start.result
     c.args.is_turned (pieces_of c.args.view.now.shown) _ c.in_ok-node.node.step
-    c.root-root.ensures c.start.ensures turned by (here ∙ c.from.ensures) seen
+    c.root-root.ensures.step c.start.ensures turned by (here ∙ c.from.ensures) seen

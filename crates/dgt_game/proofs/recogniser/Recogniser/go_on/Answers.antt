@@ -3,8 +3,8 @@ use Rattle.dgt_game.proofs.recogniser.Recogniser.go_on.Goals as goal
 
 pub returns-clause-on : goal.returns-clause-on
 returns-clause-on c =
-    goes_on c.args.state c.args.is_turned c.new.result _ c.root.result c.new.ensures c.root.ensures
-    c.push.ensures.items refl refl refl refl refl
+    goes_on c.args.state c.args.is_turned c.new.result _ c.root.result c.new.ensures
+    c.root.ensures.step c.push.ensures.items refl refl refl refl refl
 
 pub returns-clause-right : goal.returns-clause-right
 returns-clause-right c =
@@ -16,4 +16,5 @@ pub returns-clause-sure : goal.returns-clause-sure
 returns-clause-sure c =
     goes_on_sure c.args.state c.args.is_turned c.new.result (record c.new.result {
       memory = record c.new.result.memory { line = c.push.new.self };
-    }) c.root.result c.new.ensures c.root.ensures c.push.ensures.items refl refl refl refl refl refl
+    }) c.root.result c.new.ensures c.root.ensures.step c.push.ensures.items refl refl refl refl refl
+    refl

@@ -1,10 +1,12 @@
-use Rattle.{std.{proofs.Common.{false}, specs.Prelude.{slice_get}}, dgt_game.{specs.{declared.node.Place.{Place}, Memory.{steps}, Standing.{StandsAt, StandsOn}}, proofs.Standing.{but_moved}}}
+use Rattle.std.{proofs.Common.{false, refl}, specs.Prelude.{slice_get}}
+use Rattle.dgt_game.{specs.{declared.node.Place.{Place}, Memory.{steps}, Standing.{ShowsBut, StandsAt, StandsOn}}, proofs.Standing.{but_moved}}
 use Rattle.dgt_game.proofs.{Standing.{held_lacks, of_some, resting, some_view}, recogniser.Recogniser.hold.Goals.{in-Some, in-None}}
 use Rattle.dgt_game.proofs.recogniser.Recogniser.hold.Goals as goal
 
 pub returns-clause-stands : goal.returns-clause-stands
 returns-clause-stands c = λ view ready seen held.
-    let lacks = held_lacks _ c.args.node.step.state held in
+    let lacks : ShowsBut view c.args.node.step =
+    (held_lacks _ c.args.node.step.state held.0, held.1) in
     elim c.match-same_node.branch [
       | in-Some w ↦
           let m = c.args.self.now.memory in
@@ -20,11 +22,7 @@ returns-clause-stands c = λ view ready seen held.
                 c.args.node.step found.0 found.2 found.3 lacks,
           ))))
       | in-None w ↦
-          rw w.self-is ((w.add.ensures.stands view ready seen).1 (
-            (λ e. absurd (cc)),
-            λ e.
-                lacks,
-          ))
+          rw w.self-is ((w.add.ensures.stands view ready seen).1 refl lacks)
     ]
 
 pub returns-clause-holds : goal.returns-clause-holds

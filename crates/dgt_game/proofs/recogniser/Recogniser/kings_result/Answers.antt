@@ -14,8 +14,8 @@ returns-then-stands-clause-is c =
     let at : slice_get seen k ≡ Some node =
     slice_get_read seen (length seen) k node refl less read in
     let turned : c.in_ok-last.last.now.step.is_turned ≡ node.step.is_turned = search rules in
-    let means = c.in_ok-result.ensures (pieces_of c.from-shown.result.now) c.in_ok-white.ensures
-    c.in_ok-black.ensures in (
+    let means = c.in_ok-result.ensures.mean (pieces_of c.from-shown.result.now)
+    c.in_ok-white.ensures c.in_ok-black.ensures in (
       node.step,
       get_step seen k node at,
       (
@@ -33,8 +33,8 @@ returns-then-stands-2-clause-is c =
     let result = c.in_ok-result.result in
     let at : slice_get c.args.self.now.memory.line.items 0 ≡ Some last =
     rw c.deref.ensures.0 at (slice_get_read line (length line) 0 last refl look.3.0 look.1) in
-    let means = c.in_ok-result.ensures (pieces_of c.from-shown.result.now) c.in_ok-white.ensures
-    c.in_ok-black.ensures in (
+    let means = c.in_ok-result.ensures.mean (pieces_of c.from-shown.result.now)
+    c.in_ok-white.ensures c.in_ok-black.ensures in (
       last.step,
       get_step c.args.self.now.memory.line.items 0 last at,
       (

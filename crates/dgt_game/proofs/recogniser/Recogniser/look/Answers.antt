@@ -1,6 +1,7 @@
 use Rattle.{std.{proofs.Common.{◌≡◌, ◌∙◌, ◌<◌, inl, inr, Bool, [], length, ap, refl, subst, sym, true}, specs.Prelude.{◌≢◌, Contains}}, dgt_values.specs.Board.{pieces_of}}
 use Rattle.dgt_game.{specs.{declared.{memory.Memory.{Memory}, node.Place.{Place}}, Memory.{Holds, Reads}, Reading.{IsRead}}, proofs.{Known.{memory_of, view_of}, Pictures.{SomeState, king_seen}}}
 use Rattle.dgt_game.proofs.{Pictures.{over_of, since_of, known_same, read_or_not, returned_of, seen_state, state_of}, recogniser.Recogniser.look.Goals.{then-has_white+then-has_black, After-take}}
+use Rattle.{std.proofs.Common.{rules}, dgt_game.{specs.declared.recogniser.Recogniser.{Recogniser}, proofs.Waiting.{not_found}}}
 use Rattle.{dgt_game.proofs.{recogniser.Recogniser.look.Goals.{else-has_white}, Sure.{sure_of}}, dgt_chess.specs.declared.pieces.Colour.{Colour}}
 use Rattle.dgt_game.proofs.recogniser.Recogniser.look.Goals as goal
 
@@ -86,3 +87,28 @@ returns-clause-sure c = λ sure told shown h.
     (λ e. shown (sym (kings.keeps.6 ∙ is_sure) ∙ e))
     (rw kings.same c.read_by_kings-reading.ensures.at) c.read_by_kings-reading.ensures.begins
     (rw (memory, kings.returned ∙ returned) h)
+
+pub returns-clause-behind : goal.returns-clause-behind
+returns-clause-behind c =
+    let behind = λ (r : Recogniser). r.is_behind in
+    let same : behind c.if-has_white.self ≡ behind c.args.self.now = elim c.if-has_white.branch [
+      | then-has_white+then-has_black w ↦ ap behind w.self-is
+      | else-has_white w ↦ ap behind w.self-is
+    ] in
+    elim c.take.ensures.behind [
+      | inl is ↦ inl (is ∙ c.look_at_kings.ensures.behind ∙ same)
+      | inr last ↦ inr last
+    ]
+
+pub returns-clause-set_up : goal.returns-clause-set_up
+returns-clause-set_up c = λ none.
+    let white = not_found c.has_king-has_white.result _ c.has_king-has_white.ensures.0
+    (none Colour.White) in
+    let black = not_found c.has_king-has_black.result _ c.has_king-has_black.ensures.0
+    (none Colour.Black) in
+    let set : c.if-has_white.self.is_set_up ≡ true = elim c.if-has_white.branch [
+      | then-has_white+then-has_black w ↦ rw w.self-is (search rules)
+      | else-has_white w ↦ rw w.self-is (search rules)
+    ] in
+    c.take.ensures.set_up (c.read_by_kings-reading.ensures.none white black)
+    ∙ c.look_at_kings.ensures.set_up ∙ set

@@ -26,4 +26,6 @@ returns-clause-keeps c =
       ),
       refl,
       refl,
+      refl,
+      refl,
     )

@@ -1,6 +1,6 @@
 use Rattle.std.{proofs.{Common.{rules, ◌≡◌, ◌∙◌, Some, false, inl, inr, refl, ap, sym}, lemmas.Option.{MatchOption-at_some, none-some}}, specs.Prelude.{⊤}}
 use Rattle.dgt_game.specs.{declared.{event.GameResult.{GameResult}, node.Step.{Step}, recogniser.{Lost.{Lost}, Over.{Over}}}, Waiting.{EndsBy, coming, has_notice, has_result}, Standing.{IsMeant}}
-use Rattle.dgt_game.proofs.{Finding.{found_later}, Standing.{back_moved, meant_moved}, Waiting.{ended_right, last_comes, right_of_line, silent}}
+use Rattle.dgt_game.proofs.{Finding.{found_later}, Standing.{back_moved, meant_moved, there_then}, Waiting.{ended_right, last_comes, right_of_line, silent}}
 use Rattle.dgt_game.proofs.recogniser.Recogniser.next_event.Goals as goal
 
 pub returns-in-Some-next_event-clause-right : goal.returns-in-Some-next_event-clause-right
@@ -88,10 +88,24 @@ returns-clause-found c = λ lost h.
       memory = c.next_event.new.self;
       over = c.in_ok-result.over;
       ended = c.take.new.self;
-    }) (refl, refl, λ nowhere. nowhere) (c.in_default.ensures.lost lost) (λ quiet. none-some
+    }) (refl, refl, (λ nowhere. nowhere), refl) (c.in_default.ensures.lost lost) (λ quiet. none-some
     (c.in_ok-result.result, c.in_ok-result.over) (sym quiet.1 ∙ was))
 
 pub returns-in_err-result-clause-found : goal.returns-in_err-result-clause-found
 returns-in_err-result-clause-found c = λ lost h.
     let self = c.next_before.new.self in
     rw (c.in_default-next_event.ensures.nothing refl) (c.in_default.ensures.found h)
+
+pub returns-in-Some-next_event-clause-there : goal.returns-in-Some-next_event-clause-there
+returns-in-Some-next_event-clause-there c = λ stands waits. λ line.
+    let self = c.next_before.new.self in
+    let event = c.next_event.ensures in
+    let was = c.next_before.ensures.stands stands in
+    let right = (c.in_default.ensures.right waits).0 in
+    let meant : IsMeant self = elim was.2 [
+      | inl told ↦ absurd (none-some c.in-Some-next_event.event (sym (event.still told)
+          ∙ c.in-Some-next_event.is))
+      | inr meant ↦ meant
+    ] in
+    there_then self c.follow_up.new.self meant right.0 c.follow_up.ensures.there
+    c.follow_up.ensures.place.0

@@ -12,6 +12,8 @@ returns-clause-tells c =
       λ waits. ensures.follows waits,
       λ none. absurd (none-some event (sym none)),
       λ quiet. absurd (none-some event (sym (ensures.idle quiet).0)),
+      λ none. absurd (none-some event (sym none)),
+      ensures.coming,
     )
 
 pub returns-clause-planned : goal.returns-clause-planned
@@ -20,3 +22,6 @@ returns-clause-planned c =
 
 pub returns-clause-found : goal.returns-clause-found
 returns-clause-found c = λ lost h. c.in_ok-event.ensures.found lost h
+
+pub returns-clause-there : goal.returns-clause-there
+returns-clause-there c = λ stands waits. c.in_ok-event.ensures.there stands waits

@@ -1,4 +1,4 @@
-use Rattle.{std.proofs.Common.{arith, inl, inr, rules}, dgt_game.proofs.Planning.{rests_here}}
+use Rattle.{std.proofs.Common.{arith, inl, inr, refl, rules}, dgt_game.proofs.Planning.{rests_here}}
 use Rattle.dgt_game.proofs.recogniser.Recogniser.rest.Goals as goal
 
 pub returns-in-Line-clause-least : goal.returns-in-Line-clause-least
@@ -7,7 +7,7 @@ returns-in-Line-clause-least c =
     let look = c.in-Some.ensures.lookup in
     rests_here self.memory c.deref.result.now self.here self.returned.count c.rest_after.result
     c.in-Seen.k c.in-Some.node.now _ c.in-Seen.is c.deref.ensures.0 look.3.0 look.1
-    c.in-Line.is c.rest_after.ensures
+    c.in-Line.is c.rest_after.ensures.by
 
 pub returns-in-Start-clause-least : goal.returns-in-Start-clause-least
 returns-in-Start-clause-least c =
@@ -15,7 +15,7 @@ returns-in-Start-clause-least c =
     let look = c.in-Some.ensures.lookup in
     rests_here self.memory c.deref.result.now self.here self.returned.count 0
     c.in-Seen.k c.in-Some.node.now _ c.in-Seen.is c.deref.ensures.0 look.3.0 look.1
-    c.in-Start.is (inl c.if-node-eq1.true)
+    c.in-Start.is (inl (c.if-node-eq1.true, refl))
 
 pub returns-in-Start-2-clause-least : goal.returns-in-Start-2-clause-least
 returns-in-Start-2-clause-least c =
@@ -23,7 +23,7 @@ returns-in-Start-2-clause-least c =
     let look = c.in-Some.ensures.lookup in
     rests_here self.memory c.deref.result.now self.here self.returned.count 300
     c.in-Seen.k c.in-Some.node.now _ c.in-Seen.is c.deref.ensures.0 look.3.0 look.1
-    c.in-Start-2.is (inr (omega arith))
+    c.in-Start-2.is (inr (search rules, refl))
 
 pub returns-then-is_same_start-clause-least : goal.returns-then-is_same_start-clause-least
 returns-then-is_same_start-clause-least c =

@@ -5,7 +5,7 @@ use Rattle.dgt_game.proofs.recogniser.Recogniser.root.Goals as goal
 pub returns-clause-root : goal.returns-clause-root
 returns-clause-root c = λ shown seen.
     let view = c.in_ok-view.view in
-    is_root shown c.in_ok-state.state _ (pieces_of view.shown) _ c.root-node.ensures
+    is_root shown c.in_ok-state.state _ (pieces_of view.shown) _ c.root-node.ensures.step
     (c.in_ok-state.ensures.placed ∙ c.from.ensures)
     (MatchOption-at_some ⊤ (λ view. Contains shown (pieces_of view.shown)) view c.in_ok-view.was
     seen)
@@ -14,7 +14,7 @@ pub returns-clause-at : goal.returns-clause-at
 returns-clause-at c =
     let view = c.in_ok-view.view in
     some_view view c.args.self.now.view _ c.in_ok-view.was
-    (rw c.root-node.ensures (turned_back _ _ (pieces_of view.shown)
+    (rw c.root-node.ensures.step (turned_back _ _ (pieces_of view.shown)
     (c.in_ok-state.ensures.placed ∙ c.from.ensures)))
 
 pub returns-in_err-state-clause-none : goal.returns-in_err-state-clause-none
@@ -32,5 +32,5 @@ returns-clause-marked c = λ sure shows is.
     let seen = MatchOption-at_some ⊥ (λ view. Contains sure (pieces_of view.shown)) view
     c.in_ok-view.was (shows is) in
     was_shown sure (told_of c.root-node.result.step) (pieces_of view.shown) seen
-    (rw c.root-node.ensures (turned_back _ _
+    (rw c.root-node.ensures.step (turned_back _ _
     (pieces_of view.shown) (c.in_ok-state.ensures.placed ∙ c.from.ensures)))

@@ -1,7 +1,11 @@
-use Rattle.{std.proofs.Common.{◌≡◌, ◌∙◌, inl, None, false, sym, ap, true}, dgt_values.specs.Board.{pieces_of}, dgt_game.specs.{declared.memory.Memory.{Memory}, Recogniser.{Knows, shown_after}}}
-use Rattle.dgt_game.{specs.{declared.recogniser.Lost.{Lost}, Waiting.{Waits}}, proofs.{Known.{holds_more, knows_more, knows_same, memory_of, view_of, within_after}, Waiting.{ended_of, lost_of}}}
+use Rattle.std.proofs.Common.{inr}
+use Rattle.dgt_game.specs.declared.recogniser.Recogniser.{Recogniser}
+use Rattle.{std.proofs.Common.{rules, ◌≡◌, ◌∙◌, inl, None, false, sym, ap, true}, dgt_values.specs.Board.{pieces_of}, dgt_game.specs.{declared.memory.Memory.{Memory}, Recogniser.{Knows, shown_after}}}
+use Rattle.dgt_game.specs.{declared.recogniser.Lost.{Lost}, Waiting.{Waits}}
+use Rattle.dgt_game.{proofs.{Known.{holds_more, knows_more, knows_same, memory_of, same_side, view_of, within_after}, Waiting.{ended_of, lost_of}}}
 use Rattle.dgt_game.{specs.Waiting.{has_notice, is_sure_sight}, proofs.recogniser.Recogniser.see.Goals.{then-not-is_same_picture, then-not-self, else-not-self}}
 use Rattle.dgt_game.{proofs.{recogniser.Recogniser.see.Goals.{else-not-is_same_picture+else-is_sure-self, in-Sure, in_default}, Pictures.{returned_of}}, specs.Sure.{KnowsSure, sure_after}}
+use Rattle.{std.proofs.Common.{Option, subst}, dgt_chess.specs.declared.pieces.Colour.{Colour}, dgt_game.specs.Planning.{CannotBegin}}
 use Rattle.dgt_game.proofs.{Standing.{match_more}, Sure.{not_sure, were_more, within_sure}}
 use Rattle.dgt_game.proofs.recogniser.Recogniser.see.Goals as goal
 
@@ -89,9 +93,22 @@ returns-clause-stands c = λ shown line knows stands.
 
 pub returns-clause-hopeless : goal.returns-clause-hopeless
 returns-clause-hopeless c = λ h.
+    let clock = c.with_clock-self.ensures in
     elim c.if-not-is_same_picture.branch [
-      | then-not-is_same_picture w ↦ rw w.self-is w.show.ensures.hopeless
-      | else-not-is_same_picture+else-is_sure-self w ↦ rw w.self-is h
+      | then-not-is_same_picture w ↦ rw w.self-is (λ view is nowhere.
+          let either = w.show.ensures.search in
+          let (hopeless, refused) = w.show.ensures.hopeless view is nowhere in (
+            λ e. hopeless (search (rules, clock, either, e)),
+            λ e. absurd (search (rules, clock, either, e)),
+          ))
+      | else-not-is_same_picture+else-is_sure-self w ↦ rw w.self-is (λ view is nowhere.
+          let (hopeless, refused) = h view is nowhere in (
+            λ e. hopeless (search (rules, clock, e)),
+            λ e. subst (λ (running : Option Colour). CannotBegin running view) (same_side
+                c.args.observation.now.running c.args.self.now.running c.eq-is_same_clock.result
+                c.eq-is_same_clock.ensures (λ is. clock.other is e))
+                (refused (search (rules, clock, e))),
+          ))
     ]
 
 pub returns-clause-since_seen : goal.returns-clause-since_seen
@@ -134,8 +151,10 @@ pub returns-clause-found : goal.returns-clause-found
 returns-clause-found c = λ h.
     elim c.if-not-is_same_picture.branch [
       | then-not-is_same_picture w ↦ rw w.self-is (λ view is nowhere done live
-          fits lines. w.show.ensures.search done)
-      | else-not-is_same_picture+else-is_sure-self w ↦ rw w.self-is h
+          fits lines.
+          absurd (search (rules, c.with_clock-self.ensures, w.show.ensures.search, done)))
+      | else-not-is_same_picture+else-is_sure-self w ↦ rw w.self-is (λ view is nowhere done.
+          h view is nowhere (search (rules, c.with_clock-self.ensures, done)))
     ]
 
 pub returns-clause-sight : goal.returns-clause-sight
@@ -176,3 +195,27 @@ returns-clause-sight c = λ done sure knows.
           )
     ] in
     (new.0, new.1)
+
+pub returns-clause-sure_since : goal.returns-clause-sure_since
+returns-clause-sure_since c = λ sure.
+    let since = λ (r : Recogniser). r.sure_since in
+    elim c.if-not-is_same_picture.branch [
+      | then-not-is_same_picture w ↦
+          let same : since w.if-not-self.self ≡ since w.leave.new.self =
+          elim w.if-not-self.branch [
+            | then-not-self w' ↦ (let wrong : ⊥ = search rules in absurd wrong)
+            | else-not-self w' ↦ ap since w'.self-is
+          ] in
+          rw w.self-is (w.show.ensures.sure_since ∙ same ∙ w.leave.ensures.keeps.7)
+      | else-not-is_same_picture+else-is_sure-self w ↦ ap since w.self-is
+    ]
+
+pub returns-clause-behind : goal.returns-clause-behind
+returns-clause-behind c = λ done doubt.
+    elim c.if-not-is_same_picture.branch [
+      | then-not-is_same_picture w ↦ rw w.self-is (elim w.show.ensures.behind [
+        | inl same ↦ inl (same ∙ search rules)
+        | inr last ↦ inr last
+      ])
+      | else-not-is_same_picture+else-is_sure-self w ↦ rw w.self-is (search rules)
+    ]

@@ -32,7 +32,7 @@ pub returns-in-Held-clause-sure : goal.returns-in-Held-clause-sure
 returns-in-Held-clause-sure c = λ sure view told shown reads begins h.
     let step = c.in-Held.node.step in
     let held : IsHeld (as_shown step.is_turned (pieces_of view.shown)) step.state =
-    subst (ReadsView c.args.self.now.memory view) c.in-Held.is reads in
+    (subst (ReadsView c.args.self.now.memory view) c.in-Held.is reads).0 in
     let one : halves_of step.way ≡ 1 = subst MarksStart c.in-Held.is begins in
     c.hold.ensures.sure sure (λ e. held_sure sure step (pieces_of view.shown) one (shown e) held) h
 

@@ -35,3 +35,10 @@ returns-clause-answers c = λ step ready at other.
     let same = sym c.find.ensures.memory in
     let now : IsOpen c.find.new.self.memory = subst IsOpen same ready in
     c.tell.ensures.answer step now.2 (rw same at at) other
+
+pub returns-clause-lands : goal.returns-clause-lands
+returns-clause-lands c = λ step rooted at other.
+    let same = sym c.find.ensures.memory in (
+      c.tell.ensures.lands step (rw same at rooted) (rw same at at),
+      c.tell.ensures.news step (rw same at rooted) (rw same at at) other,
+    )
