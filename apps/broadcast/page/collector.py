@@ -19,6 +19,7 @@ from dataclasses import dataclass
 from typing import Any
 
 import dgt
+from dgt import _damaged
 from dgt._locks import hold
 from dgt._mqtt import say
 
@@ -35,6 +36,7 @@ TURNS = {"white": 0x10, "black": 0x08}  # bits of a clock's status
 # A game's time follows its board's by as many seconds, so that what comes late is heard in time,
 # and goes on for as many without a word of the board.
 LATE, TRUST = 0.3, 15.0
+OLDEST = 13 * 3600.0  # seconds: journals keep 12 hours
 MOST_ROWS = 20000  # the rows of a board that the state keeps at least: more belong to no game
 AWAY = ("silent", "gone", "ended")
 REMOVED = "removed"  # the entry of a board without topics
@@ -83,10 +85,18 @@ class State:
     text, and only the rows of a board's last one: they say how the next one began."""
 
     def __init__(self, path: str | None) -> None:
-        """sqlite3.Error if the file can't be opened."""
+        """OSError or sqlite3.Error if the file can't be opened. A new one is for its owner only: it
+        has what spectators get later."""
+        if path:
+            os.close(os.open(path, os.O_CREAT, 0o600))
         self.kept = sqlite3.connect(path or ":memory:", isolation_level=None,
                                     check_same_thread=False, timeout=5.0)
-        self.kept.executescript(TABLES)
+        try:
+            self.kept.executescript(TABLES)
+            _damaged.check(self.kept)
+        except sqlite3.Error:
+            self.kept.close()
+            raise
         self.read = 0  # the last row that the games have read
         self.last = 1 << 62  # the last row that they may read
 
@@ -130,10 +140,10 @@ class State:
         latest = [(*row, json.loads(entry)) for *row, entry, _ in rows]
         return [row for row in latest if row[-1] != REMOVED]  # type: ignore[misc]
 
-    def news(self) -> list[tuple[int, str, str, int, Any]]:
-        """The unread rows: a row, a journal, a board, a number, and an entry."""
+    def news(self) -> list[tuple[int, float, str, str, int, Any]]:
+        """The unread rows: a row, its time here, a journal, a board, a number, and an entry."""
         rows = self.kept.execute(
-            "SELECT id, journal, board, number, entry FROM heard LEFT JOIN done USING (board) "
+            "SELECT id, at, journal, board, number, entry FROM heard LEFT JOIN done USING (board) "
             "WHERE id > ? AND id <= ? AND id >= coalesce(since, 0) ORDER BY id LIMIT 1000",
             [self.read, self.last]).fetchall()
         self.read = rows[-1][0] if rows else self.read
@@ -242,7 +252,7 @@ class Shelf:
 
     def __init__(self, path: str | None, state: State) -> None:
         """OSError if the file can't be made, or another process keeps it."""
-        self.lock, self.state, self.is_open = threading.Lock(), state, False
+        self.lock, self.state, self.is_open = threading.Lock(), state, threading.Event()
         self.games: collections.deque[Kept] = collections.deque(maxlen=MOST_GAMES)
         self.file = None if path is None else dgt.PgnFile(path)
         if path is not None:
@@ -257,9 +267,10 @@ class Shelf:
 
     def open(self) -> None:
         """All earlier games are on the shelf: from now on the file is written."""
-        if not self.is_open and self.file is not None:
+        if not self.is_open.is_set() and self.file is not None:
             threading.Thread(target=self.save_all, daemon=True).start()
-        self.is_open, self.content = True, b""
+        self.content = b""
+        self.is_open.set()
 
     def begin(self, board: str, number: int) -> Kept:
         kept = Kept(board, None if self.file is None else self.file.begin(), number=number)
@@ -466,7 +477,7 @@ class Collector:
                  tell: Tell, state: State, is_last: bool = True) -> None:
         """If it `is_last`, nobody needs the state's rows of finished games."""
         self.shelf, self.tags, self.white_clock, self.tell = shelf, {**tags}, white_clock, tell
-        self.is_last, self.finished, self.row = is_last, state.finished(), 0
+        self.is_last, self.finished, self.row, self.arrived = is_last, state.finished(), 0, 0.0
         self.state, self.counts, self.is_between = state, state.counts(), False
         self.firsts, self.reached = state.firsts(), state.reached()
         self.waiting: queue.SimpleQueue[Heard | None] = queue.SimpleQueue()
@@ -542,7 +553,7 @@ class Collector:
 
     def take_news(self) -> None:
         while news := self.state.news():
-            for self.row, journal, name, number, entry in news:
+            for self.row, self.arrived, journal, name, number, entry in news:
                 self.take(self.row, journal, name, number / 1000, entry)
 
     def take(self, row: int, journal: str, name: str, at: float, entry: Any) -> None:
@@ -638,7 +649,9 @@ class Collector:
         table.at, table.place.row = max(table.at, at + table.shift), row
         while (due := table.games.due) is not None and due <= table.at:
             table.games.tick(due)
-        table.games.set_tags({"Date": time.strftime("%Y.%m.%d", time.localtime(at)),
+        # A journal has no older entries, and no later ones: the date of its machine is wrong.
+        day = at if abs(self.arrived - at) < OLDEST else self.arrived
+        table.games.set_tags({"Date": time.strftime("%Y.%m.%d", time.localtime(day)),
                               **self.tags}, False)
         table.name_players(board.players)
         if board.is_sure and (letters := board.position.letters) != table.letters:

@@ -39,13 +39,15 @@ class Refused(Exception):
 
 
 def named(state: dgt.GameState, word: str) -> str:
-    """The legal move of a word in short or long notation. A capture may be written without `x`."""
+    """The legal move of a word in short or long notation. A capture may be written without `x`, as
+    in `Nd5` and `ed5`: `d5` is none."""
     plain, why = word.rstrip("!?"), "is not a legal move"
     long = TARGET.sub(lambda found: found[1] + (found[2] or "").lower(), plain)
     if state.chess.is_legal(long):
         return long
     for x in "", "x":
-        text = TARGET.sub(lambda found: x + found[1] + (found[2] or "").upper(), plain)
+        text = TARGET.sub(lambda found: (x if found.end(1) > 2 else "") + found[1]
+                          + (found[2] or "").upper(), plain)
         try:
             return state.chess.parse_san(text, lenient=True)
         except dgt.BadSan as fault:

@@ -23,7 +23,7 @@ class LateState(collector.State):
             self.gates.append((here + min(seconds, max(0.0, at + seconds - now)), row))
             self.newest = row
 
-    def news(self) -> list[tuple[int, str, str, int, Any]]:
+    def news(self) -> list[tuple[int, float, str, str, int, Any]]:
         here = time.monotonic()
         newest, = self.kept.execute("SELECT coalesce(max(id), 0) FROM heard").fetchone()
         if newest > self.newest:

@@ -7,12 +7,14 @@ import hashlib
 import hmac
 import html
 import pathlib
+import re
 import secrets
 import string
+import threading
 import time
 import urllib.parse
 from collections.abc import Callable
-from dataclasses import dataclass
+from dataclasses import dataclass, field
 from typing import Any
 
 import dgt
@@ -20,12 +22,16 @@ import dgt
 import collector
 import corrected_games
 import corrections
+import topics
 import web
 from corrections import RESULTS, Refused
 from corrected_games import Wanted
 
 TEMPLATE = pathlib.Path(__file__).resolve().parent / "desk.html"
 WAIT = 1.0  # seconds before a wrong password is refused
+# All browsers together may send this many wrong passwords, and then one each time this many
+# seconds have passed.
+MOST_WRONG, EACH = 20, 12.0
 SHOWN = 20  # corrections
 FIELDS = {  # of each form, besides `board` and `game`
     "result": ("result", "why"), "moves": ("before", "moves"), "tags": ("White", "Black", "Round"),
@@ -33,8 +39,29 @@ FIELDS = {  # of each form, besides `board` and `game`
 LOCAL = ("localhost", "127.0.0.1", "[::1]")
 HEADS = {"Cache-Control": "no-store", "X-Content-Type-Options": "nosniff",
          "X-Frame-Options": "DENY", "Referrer-Policy": "same-origin"}
+PIECES = {ord(letter): f"{chr(0x2654 + at)}\ufe0e" for at, letter in enumerate("KQRBNPkqrbnp")}
 Form = dict[str, str]
 quoted = html.escape
+
+
+class Tries:
+    """The wrong passwords that browsers may still send."""
+
+    def __init__(self) -> None:
+        self.lock, self.left, self.at = threading.Lock(), float(MOST_WRONG), time.monotonic()
+
+    def take(self) -> bool:
+        """Takes one, if any is left."""
+        with self.lock:
+            now = time.monotonic()
+            self.left, self.at = min(MOST_WRONG, self.left + (now - self.at) / EACH), now
+            is_left = self.left >= 1
+            self.left -= is_left
+            return is_left
+
+    def give_back(self) -> None:
+        with self.lock:
+            self.left += 1
 
 
 @dataclass
@@ -47,16 +74,19 @@ class Source:
     password: str | None
     status: Callable[[], list[tuple[str, bool]]]
     metrics: Callable[[], str]
+    tries: Tries = field(default_factory=Tries)
 
     def __post_init__(self) -> None:
         key = self.password.encode() if self.password else secrets.token_bytes()
-        self.token = hmac.digest(key, b"a form of the desk", "sha256").hex()
+        self.token, self.cookie = (hmac.digest(key, what, "sha256").hex() for what in (
+            b"a form of the desk", b"a browser that knows the password"))
 
 
 class Desk(web.Visit):
     """One request of an arbiter's browser."""
 
     source: Source
+    heads: dict[str, str] = {}
 
     def do_GET(self) -> None:
         path, _, query = self.path.partition("?")
@@ -109,13 +139,32 @@ class Desk(web.Visit):
                 return True
             self.answer(403, "text/plain", "the desk is at http://localhost\n")
             return False
-        if is_password(given, password):
-            return True
-        if given:
+        asks = {"WWW_Authenticate": 'Basic realm="desk", charset="UTF-8"'}
+        if not given:
+            return self.refuse(401, "the desk needs a password\n", **asks)
+        tries, is_known = self.source.tries, self.is_known()
+        if not is_known and not tries.take():
+            return self.refuse(429, "too many wrong passwords: try again in a minute\n",
+                               Retry_After="60")
+        if not is_password(given, password):
+            collector.report(f"the desk: a wrong password from {self.client_address[0]}")
             self.pause = WAIT
+            return self.refuse(401, "the desk needs a password\n", **asks)
+        if not is_known:
+            tries.give_back()
+        self.heads = {"Set-Cookie": f"desk={self.source.cookie}; HttpOnly; SameSite=Strict"}
+        return True
+
+    def is_known(self) -> bool:
+        """Whether the browser has sent the right password before: others' wrong ones don't keep it
+        out."""
+        right = f"desk={self.source.cookie}".encode()
+        return any(hmac.compare_digest(each.strip().encode(), right)
+                   for each in self.headers.get("Cookie", "").split(";"))
+
+    def refuse(self, status: int, text: str, **heads: str) -> bool:
         self.close_connection = True
-        self.answer(401, "text/plain", "the desk needs a password\n",
-                    WWW_Authenticate='Basic realm="desk", charset="UTF-8"')
+        self.answer(status, "text/plain", text, **heads)
         return False
 
     def is_of_desk(self, form: Form) -> bool:
@@ -130,8 +179,8 @@ class Desk(web.Visit):
 
     def answer(self, status: int, kind: str, text: str, **heads: str) -> None:
         more = {name.replace("_", "-"): value for name, value in heads.items()}
-        self.reply(status, HEADS | {"Content-Type": f"{kind}; charset=utf-8"} | more,
-                   text.encode(errors="replace"))
+        own = HEADS | self.heads | {"Content-Type": f"{kind}; charset=utf-8"}
+        self.reply(status, own | more, text.encode(errors="replace"))
 
     # ---- The pages
 
@@ -164,8 +213,8 @@ class Desk(web.Visit):
         heads = "".join(f'<th scope="col"{more}>{head}</th>' for head, more in (
             ("Board", ""), ("White", ""), ("Black", ""), ("Clock", ""),
             ("Last moves", ' class="more"'), ("Result", ""), ("State", "")))
-        return (f"{lines}<table><caption>Boards</caption><thead><tr>{heads}</tr></thead>"
-                f"<tbody>{rows}</tbody></table>{self.corrections()}")
+        return (f'{lines}<div class="wide"><table><caption>Boards</caption><thead><tr>{heads}</tr>'
+                f"</thead><tbody>{rows}</tbody></table></div>{self.corrections()}")
 
     def row(self, event: dict[str, Any]) -> str:
         name, game, players = event["board"], event["game"], event["players"]
@@ -177,10 +226,13 @@ class Desk(web.Visit):
             state = f"lost: {advice}"
         mark = "" if state == "following" else ' class="bad"'
         return (f'<tr><th scope="row">{link}</th><td>{quoted(white)}</td><td>{quoted(black)}</td>'
-                f'<td>{clocks(event)}</td>'
+                f'<td>{self.clocks(event)}</td>'
                 f'<td class="more">{quoted(last_moves(game))}</td>'
                 f'<td>{quoted(game["result"] if game else "no game")}</td>'
                 f'<td{mark}>{quoted(state)}</td></tr>')
+
+    def clocks(self, event: dict[str, Any]) -> str:
+        return clocks(event, self.source.boards.broker)
 
     def corrections(self) -> str:
         items = "".join(
@@ -202,8 +254,8 @@ class Desk(web.Visit):
             f'<a href="/desk?{urllib.parse.urlencode({"board": name, "game": each})}"'
             f'{current(each == chosen)}>Game {each}</a>' for each in range(1, last + 1))
         now = "" if event is None or chosen != last else (
-            f'<p>{quoted(event["state"])}. Clock (left, right): {clocks(event)}. '
-            f"On the board: {quoted(event['placement'])}</p>")
+            f'<p>{quoted(event["state"])}</p><p>{self.clocks(event)}</p>'
+            f"{diagram(event['placement'])}")
         if now and event and (advice := advice_of(event["game"])):
             now += f'<p class="bad">No move leads to this: {quoted(advice)}</p>'
         told = shown(game) if game else "No game has begun on this board."
@@ -302,13 +354,34 @@ def select(label: str, name: str, values: Any, chosen: str) -> str:
     return f'<label>{label} <select name="{name}">{options}</select></label>'
 
 
-def clocks(event: dict[str, Any]) -> str:
-    clock = event["clock"]
+def clocks(event: dict[str, Any], is_live: bool) -> str:
+    """The players' times in HTML, or those of the sides if White's isn't known. The running one is
+    counted down, as on the page."""
+    clock, game = event["clock"], event["game"]
     if not clock or clock.get("none"):
         return "none"
-    times = [f"{each // 3600}:{each // 60 % 60:02}:{each % 60:02}"
-             for each in (clock["left"], clock["right"])]
-    return f"{' '.join(times)}{' runs' if clock['running'] else ''}"
+    white = (game and game["white_side"]) or ""
+    names = {"left": {"left": "White", "right": "Black"}, "right": {"right": "White",
+             "left": "Black"}}.get(white, {"left": "Left", "right": "Right"})
+    runs = clock["runs"] if is_live and event["state"] == "following" else None
+    passed = max(0, topics.moment(time.monotonic()) - clock["at"]) // 1000
+    parts = []
+    for side, name in sorted(names.items(), key=lambda each: each[1] in ("Black", "Right")):
+        rest = max(0, clock[side] - (passed if side == runs else 0))
+        text = f"{name} {rest // 3600}:{rest // 60 % 60:02}:{rest % 60:02}"
+        fallen = " flag fallen" if side in clock["fallen"] else ""
+        parts.append(f"<b>{text}{fallen} runs</b>" if side == runs else f"{text}{fallen}")
+    return "<br>".join(parts)
+
+
+def diagram(placement: str) -> str:
+    """A board in HTML, White at the bottom."""
+    squares = [square for rank in placement.split("/")
+               for square in re.sub("[0-9]", lambda found: int(found[0]) * " ", rank)]
+    cells = [f"<td>{quoted(each.translate(PIECES))}</td>" for each in squares]
+    rows = "".join(f"<tr>{''.join(cells[at:at + 8])}</tr>" for at in range(0, len(cells), 8))
+    return (f'<table class="board" role="img" aria-label="On the board: {quoted(placement)}">'
+            f"{rows}</table>")
 
 
 def advice_of(game: dict[str, Any] | None) -> str:

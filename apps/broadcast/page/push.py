@@ -102,7 +102,7 @@ class Out:
 
 
 class Files(Out):
-    """A file for each round, in a folder."""
+    """A file for each round, in a folder, which is made if it is missing."""
 
     def __init__(self, shelf: collector.Shelf, folder: str) -> None:
         super().__init__(shelf)
@@ -111,6 +111,7 @@ class Files(Out):
 
     def do(self) -> tuple[str, float]:
         try:
+            self.folder.mkdir(exist_ok=True)
             for name, text in by_round(self.shelf).items():
                 if self.written.get(name) != text:
                     shown = re.sub(r"[^\w.-]", "_", name).encode()[:200].decode(errors="ignore")

@@ -2,6 +2,7 @@
 
 import collections
 import contextlib
+import functools
 import json
 import sqlite3
 import threading
@@ -32,12 +33,12 @@ class Boards:
         self.known: dict[str, topics.Board] = {}
         self.owned: collections.Counter[str] = collections.Counter()  # boards of each journal
         self.events = web.Events()
-        self.latest: tuple[int, str] = (-1, "")
+        self.latest: tuple[int, bytes] = (-1, b"")
         self.games: corrected_games.CorrectedGames | None = None
         self.late: Boards | None = None  # the boards for spectators
         self.names: corrected_games.Players = {}
         self.seats: dict[str, str] = {}  # the other board of each swapped one
-        self.broker = False
+        self.broker, self.broker_at, self.looked_at = False, 0.0, 0.0
         self.messages = self.refused = 0
         self.wrong: set[tuple[str, str]] = set()  # topics with a reported invalid message
         self.full: set[str] = set()  # publishers with a reported refused board
@@ -55,15 +56,16 @@ class Boards:
         with self.lock:
             return self.all()
 
-    def written(self) -> tuple[bytes, int]:
-        """Everything that pages show, as JSON, and the place of the next event. Its first key is
-        the time, from which a page computes the age of each clock."""
+    def written(self) -> tuple[bytes, bytes, int]:
+        """Everything that pages show, as JSON in two parts, and the place of the next event. Its
+        first key is the time, from which a page computes the age of each clock. The second part is
+        the same object until the next event."""
         with self.lock:
             end = self.events.end
             if self.latest[0] != end:
-                self.latest = end, json.dumps(self.all())
+                self.latest = end, json.dumps(self.all())[1:].encode() + b"\n\n"
             now = topics.moment(time.monotonic())
-            return f'{{"now": {now}, {self.latest[1][1:]}'.encode(), end
+            return f'{{"now": {now}, '.encode(), self.latest[1], end
 
     def tell(self, event: dict[str, Any]) -> None:
         event = {"now": topics.moment(time.monotonic()), **event}
@@ -92,7 +94,7 @@ class Boards:
                 report(f"{name[:80]!r}: ignored, since its publisher has too many boards")
             return None
         if board is None:
-            board = self.known[name] = topics.Board(name)
+            board = self.known[name] = topics.Board(name, known_at=time.monotonic())
             self.owned[""] += 1
         return board
 
@@ -137,13 +139,37 @@ class Boards:
             with self.lock:
                 if (board := self.board_of(name, log.journal)) is None:
                     return None
-                if not board.may_be_of(log.journal, time.monotonic(), is_live):
+                now = time.monotonic()
+                if not board.may_be_of(log.journal, now, is_live):
                     board.others[log.journal] = log.last
+                    if is_live:
+                        board.hear_rival(log, now)
                     return None
+                if is_live:
+                    self.compare(board, log.journal, now)
                 return self.take_log(board, log, is_live)
         except topics.Refused:
             self.refuse(name, topics.LOG, payload)
             return None
+
+    def compare(self, board: topics.Board, journal: str, now: float) -> None:
+        """Notes, and reports once, that another program publishes the board, too."""
+        board.rivals = {each: at for each, at in board.rivals.items()
+                        if each != journal and now < at + topics.LOST}
+        if board.rivals:
+            if not board.is_doubled(now):
+                others = ", ".join(board.rivals)
+                report(f"{board.name!r}: two programs publish this board (the journals {journal} "
+                       f"and {others}): only what the first one says is shown and kept. Give one "
+                       "of the boards another name (see --names of dgt-broadcast)")
+            board.doubled_at = now
+
+    def doubled(self) -> list[str]:
+        """The boards that two programs publish."""
+        with self.lock:
+            now = time.monotonic()
+            return sorted((name for name, board in self.known.items() if board.is_doubled(now)),
+                          key=collector.natural)
 
     def take_log(self, board: topics.Board, log: topics.Log, is_live: bool) -> str | None:
         name, key, now = board.name, (board.name, log.journal), time.monotonic()
@@ -212,6 +238,30 @@ class Boards:
                     board.has_ended = True
                     self.tell_change(board)
 
+    def end(self, name: str) -> None:
+        """Notes that a board isn't followed any more."""
+        with self.lock:
+            if board := self.known.get(name):
+                board.has_ended = True
+                self.tell_change(board)
+
+    def look(self) -> None:
+        """Ends the boards that a journal says nothing about while the broker is there, also those
+        that only a retained message or the state has named. It is called each second; if it was
+        not, this program was busy, and they have more time."""
+        now = time.monotonic()
+        if now > self.looked_at + 5:
+            self.broker_at = now
+        self.looked_at = now
+        with self.lock:
+            silent = [name for name, board in self.known.items()
+                      if self.broker and board.journal and not board.has_ended
+                      and now > max(self.broker_at, board.known_at, board.live_at) + topics.LOST]
+        for name in silent:
+            self.end(name)
+            if self.late and self.late.games:
+                self.late.games.hear(collector.Call(functools.partial(self.late.end, name)))
+
     def tell_change(self, board: topics.Board) -> None:
         """Sends changes to pages, unless they show them by themselves."""
         board.named = self.names.get(board.name)
@@ -256,7 +306,7 @@ class Boards:
         unknown until they arrive again: the broker may have lost retained messages. The rest stays,
         and repeated messages change nothing."""
         with self.lock:
-            self.broker = is_there
+            self.broker, self.broker_at = is_there, time.monotonic()
             self.tell(self.head())
             for board in self.known.values():
                 if board.journal and self.games:

@@ -18,7 +18,9 @@ STATES = ("following", "doubt", "silent", "gone", "ended", "unknown")
 MOST_BYTES = 500  # of a message
 MOST_LOG = 500 * 110  # of a message with entries
 MOST_NAME = MOST_PLAYERS = 200  # bytes
-LOST = 25.0  # seconds after which another journal may take a silent one's board
+# Seconds after which a silent journal's board has no signal, and another journal may take it: it
+# says something each ten.
+LOST = 25.0
 SIDES = ("left", "right")  # of a clock
 AT_START = time.time() - time.monotonic()
 NEAR = 1.5  # seconds by which a clock may differ from a page's prediction
@@ -178,8 +180,11 @@ class Board:
     clock_number: int = 0  # the number of the entry with this clock
     others: dict[str, int] = field(default_factory=dict)  # other journals, and their last numbers
     less: str | None = None  # the side of the clock that had less time than before
+    rivals: dict[str, float] = field(default_factory=dict)  # those that follow it now, and when
+    doubled_at: float = -LOST  # when its journal was heard beside one of these
     told: dict[str, Any] | None = None  # the last event for pages
-    has_ended: bool = False  # the journal's program
+    has_ended: bool = False  # the journal's program, or it is silent
+    known_at: float = 0.0
     live_at: float = 0.0  # when the journal was heard
     ahead: int | None = None  # the clock here, of the journal's, in milliseconds
     is_fresh: bool = False  # its position was heard since the broker was connected
@@ -210,6 +215,20 @@ class Board:
         one, until it is disconnected or silent."""
         return self.journal in ("", journal) or is_live and (
             self.state in ("silent", "gone", "ended") or now > self.live_at + LOST)
+
+    def hear_rival(self, log: Log, now: float) -> None:
+        """Notes a live message of another journal about the board. One that has entries of it, and
+        not that it is disconnected, follows it as well."""
+        if log.entries:
+            self.rivals.pop(log.journal, None)
+            if log.entries[-1][1] in ("following", "doubt"):
+                self.rivals[log.journal] = now
+        elif log.journal in self.rivals:
+            self.rivals[log.journal] = now
+
+    def is_doubled(self, now: float) -> bool:
+        """Whether two programs publish it."""
+        return now < self.doubled_at + LOST
 
     @property
     def position(self) -> dgt.Position:

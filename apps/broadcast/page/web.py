@@ -21,8 +21,9 @@ from typing import Any
 SECONDS = 10.0  # for a whole request; its answer has the same time, plus a second per RATE bytes
 RATE = 10_000
 MOST_HEAD, MOST_BODY = 1 << 14, 1 << 16  # bytes of a request
-# The most connections, of all addresses and of each: open pages, and those that wait for a request.
-# Too many waiting ones drop the oldest, and too many pages get the answer 503.
+# The most connections, of all addresses and of each: open pages, and those that wait for a request
+# or haven't taken their answer. Too many of these drop the oldest, and too many pages get the
+# answer 503.
 MOST_PAGES, MOST_PAGES_OF_ONE = 4096, 2048
 MOST_WAITING, MOST_WAITING_OF_ONE = 1024, 256
 # A page that hasn't taken this many events is dropped. It reconnects and starts again.
@@ -32,6 +33,8 @@ PAUSE = 0.1  # seconds between two writes to all pages
 QUIET = 15.0  # seconds after which a page is sent something, to check that it is there
 STUCK = 60.0  # seconds after which a page that takes nothing is dropped
 UNSENT = 1 << 17  # bytes of a connection that the kernel may hold
+# The bytes that a connection gets at once, and those of all texts that somebody hasn't taken yet.
+SLICE, MOST_HELD = 1 << 14, 1 << 26
 END = re.compile(rb"\r?\n\r?\n")
 LENGTH = re.compile(rb"(?i)\ncontent-length:[ \t]*(\d{1,9})[ \t\r]*$", re.M)
 
@@ -71,12 +74,13 @@ class Events:
 
 
 class Visit(http.server.BaseHTTPRequestHandler):
-    """A complete request, which is answered at once. `place` is that of a page: it gets all events
-    from there on."""
+    """A complete request, which is answered at once: with what is in `wfile`, and `text`, which
+    several answers share. `place` is that of a page: it gets all events from there on."""
 
     protocol_version = "HTTP/1.1"
     server: Any
     wfile: io.BytesIO
+    text = b""
     place: int | None = None
     pause = 0.0  # seconds before the answer is sent
 
@@ -90,6 +94,17 @@ class Visit(http.server.BaseHTTPRequestHandler):
     def finish(self) -> None:
         pass
 
+    def parse_request(self) -> bool:
+        """Refuses a head with lines that are no fields, or with one of these twice: something else
+        may read them otherwise."""
+        if not super().parse_request():
+            return False
+        is_wrong = self.headers.defects or any(
+            len(self.headers.get_all(name, [])) > 1 for name in ("Host", "Content-Length"))
+        if is_wrong:
+            self.send_error(400)
+        return not is_wrong
+
     def log_message(self, *_: Any) -> None:
         pass
 
@@ -101,7 +116,7 @@ class Visit(http.server.BaseHTTPRequestHandler):
             self.send_header(name, value)
         self.end_headers()
         if content and self.command != "HEAD":
-            self.wfile.write(content)
+            self.text = content
 
 
 class Connection(asyncio.Protocol):
@@ -114,6 +129,8 @@ class Connection(asyncio.Protocol):
         self.server, self.unread, self.due = server, b"", math.inf
         self.working: asyncio.Task[None] | None = None
         self.place: int | None = None  # of a page, among the events
+        self.rest = memoryview(b"")  # of an answer, or of events
+        self.is_last = False  # no other request follows
         self.is_full = False
         self.written = 0.0
 
@@ -130,6 +147,7 @@ class Connection(asyncio.Protocol):
         self.server.forget(self)
 
     def drop(self) -> None:
+        self.rest = memoryview(b"")
         self.server.forget(self)
         self.transport.abort()
 
@@ -149,8 +167,10 @@ class Connection(asyncio.Protocol):
             size = found.end() if found else 0
             if self.unread.startswith(b"POST ") and (length := LENGTH.search(self.unread, 0, size)):
                 size += int(length[1])
-            if size > MOST_HEAD + MOST_BODY or not size and len(self.unread) > MOST_HEAD:
+            if size > MOST_HEAD + MOST_BODY or (found.end() if found else len(
+                    self.unread)) > MOST_HEAD:
                 self.drop()
+                break
             if not size or len(self.unread) < size:
                 break
             request, self.unread = self.unread[:size], self.unread[size:]
@@ -189,16 +209,33 @@ class Connection(asyncio.Protocol):
             self.send_answer(visit)
 
     def send_answer(self, visit: Visit) -> None:
-        text, self.is_full = visit.wfile.getvalue(), False
-        self.due = self.server.loop.time() + SECONDS + len(text) / RATE
-        self.transport.write(text)
-        if visit.place is not None:
-            self.unread, self.place = b"", visit.place
+        head, self.rest, self.is_full = visit.wfile.getvalue(), memoryview(visit.text), False
+        self.due = self.server.loop.time() + SECONDS + len(self.rest) / RATE
+        self.is_last, self.place = visit.close_connection, visit.place
+        self.transport.write(head)
+        if self.place is not None:
+            self.unread = b""
             self.server.add_page(self)
-        elif visit.close_connection:
+        else:
+            self.go_on()
+
+    def go_on(self) -> None:
+        """Sends the rest of an answer, and waits for another request."""
+        self.send_rest()
+        if self.transport.is_closing():
+            return
+        if self.is_full:
+            self.server.let_take(self)
+        elif self.is_last:
             self.transport.close()
-        elif not self.is_full:
+        else:
             self.wait()
+
+    def send_rest(self) -> None:
+        """Sends as much as the browser takes: what the transport keeps is a copy."""
+        while self.rest and not self.is_full:
+            self.transport.write(self.rest[:SLICE])
+            self.rest = self.rest[SLICE:]
 
     def pause_writing(self) -> None:
         self.is_full = True
@@ -210,23 +247,21 @@ class Connection(asyncio.Protocol):
         if self.place is not None:
             self.catch_up()
         elif not self.transport.is_closing():
-            self.wait()
+            self.go_on()
             self.read()
 
     def catch_up(self) -> None:
         assert self.place is not None
         self.due = math.inf
+        self.send_rest()
         while self.place < self.server.events.end and not self.is_full:
             try:
                 text, self.place = self.server.since(self.place)
             except LookupError:
                 self.drop()
                 return
-            self.send(text)
-
-    def send(self, text: bytes) -> None:
-        self.written = self.server.loop.time()
-        self.transport.write(text)
+            self.rest, self.written = memoryview(text), self.server.loop.time()
+            self.send_rest()
 
 
 class Server:
@@ -301,6 +336,15 @@ class Server:
         elif len(self.waiting) > self.most_waiting:
             next(iter(self.waiting)).drop()
 
+    def let_take(self, one: Connection) -> None:
+        """Lets one wait that hasn't taken its answer yet. If all such answers are too long, the
+        oldest are dropped. Those that share a text share its bytes."""
+        self.let_wait(one)
+        due = [each for each in self.waiting if each.rest]
+        while sum({id(each.rest.obj): memoryview(each.rest.obj).nbytes
+                   for each in due}.values()) > MOST_HELD:
+            due.pop(0).drop()
+
     def has_room(self, address: str) -> bool:
         """Whether an address may open another page."""
         return len(self.pages) < self.most_pages and self.of_one[address] < MOST_PAGES_OF_ONE
@@ -353,4 +397,5 @@ class Server:
                 one.drop()
             for page in [each for each in self.pages if each.written + QUIET < now]:
                 if not page.is_full:
-                    page.send(b"event: quiet\ndata:\n\n")
+                    page.written = now
+                    page.transport.write(b"event: quiet\ndata:\n\n")
