@@ -52,8 +52,8 @@ const RESULT_TEXTS = { [RESULTS.whiteWins]: "1-0", [RESULTS.blackWins]: "0-1",
  * | made | a move was made, and the position after it was shown |
  * | unseen | these moves were made, and only the position after the last was shown: no other legal
  *   line of as many leads there |
- * | gap | `count` moves were made, and several legal lines lead to the position. The state is the
- *   one after one of them |
+ * | gap | `count` moves were made, and only the position after the last was shown. Some legal line
+ *   of as many leads to this state, but it isn't known which was made |
  * | back | `count` moves are taken back: those of the last made, unseen or gap |
  * | ended | the game has ended |
  * | lost | no moves lead to what the board shows: these squares differ from the last state's |

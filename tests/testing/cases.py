@@ -39,7 +39,10 @@ import wrong
 ROOT = pathlib.Path(__file__).resolve().parents[2]
 sys.path.insert(1, str(ROOT / "bindings/python"))
 sys.dont_write_bytecode = True  # of what the scripts import
-PROGRAM = str(ROOT / "crates/dgt/out/dgt")
+# DGT_PROVE=1, as of ./test, has ./dgt and bindings/c/build prove what the cases run on. Without it
+# the program is the one that is compiled as plain Rust, and the library is what is there.
+IS_PROVED = os.environ.get("DGT_PROVE") == "1"
+PROGRAM = str(ROOT / "crates/dgt/out" / ("dgt" if IS_PROVED else "plain/dgt"))
 SECONDS = 120  # for what takes one or two: the machine may be busy
 MOST_SECONDS = 2700  # without the end of any case
 # A process of root that may do what any user may, and no more.
@@ -147,6 +150,11 @@ class Case(unittest.TestCase):
         if lacking := absent(*names):
             skip(f"{self._testMethodName.removeprefix('test_')} (no {', '.join(lacking)})")
 
+    def needs_proof(self) -> None:
+        """Skips a case about what is proved, unless DGT_PROVE=1 asks for the proofs."""
+        if not IS_PROVED:
+            skip(f"{self._testMethodName.removeprefix('test_')} (without DGT_PROVE=1)")
+
     def start(self, *words: Any, **how: Any) -> subprocess.Popen[Any]:
         """Starts a program, which is ended with the case."""
         ran = subprocess.Popen([*map(str, words)], **how)
@@ -154,12 +162,20 @@ class Case(unittest.TestCase):
         return ran
 
 
+def build_program() -> None:
+    """Has the launcher build PROGRAM, if that is needed. Skips the case without rt."""
+    words = [ROOT / "dgt", "--prove" if IS_PROVED else "--plain", "--version"]
+    if not shutil.which("rt") and subprocess.run(words, capture_output=True).returncode:
+        skip("the program (no rt)")
+    command(*words, seconds=None)
+
+
 class ProgramCase(Case):
-    """A case of the program. The launcher builds it first if that is needed."""
+    """A case of the program."""
 
     @classmethod
     def setUpClass(cls) -> None:
-        command(ROOT / "dgt", "--help", seconds=None)
+        build_program()
 
 
 class AsyncCase(Case, unittest.IsolatedAsyncioTestCase):

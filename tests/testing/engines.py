@@ -19,9 +19,37 @@ DEADLY = ["unknown host", "no remote directory", "not found", "no such file", "c
           "permission denied", "errno", "traceback", "resource temporarily"]
 
 
-def run(*words, before=(), **environment):
+def with_ports(*found, script=None):
+    """The command for a program of the package, or a script, on a machine with these ports if they
+    exist: each is the words of a `SerialPort`."""
+    runs = f"run_path({str(script)!r}" if script else "run_module('dgt'"
+    return [sys.executable, "-c", f"""import os, runpy, sys
+sys.path.insert(0, {str(ROOT / "bindings/python")!r})
+from dgt import SerialPort, serial_ports
+serial_ports.ports = lambda **_: [
+    SerialPort(*each) for each in {found!r} if os.path.exists(each[0])]
+sys.argv[0] = {str(script)!r}
+runpy.{runs}, run_name="__main__")"""]
+
+
+NO_BOARD = [
+    ((), "no board: plug it in, or name its port"),
+    ((("/dev/zero", "Prolific"), ("/dev/null",)),
+     "no port is likely a board's. If one of these is, name it: /dev/zero Prolific; /dev/null"),
+    ((("/dev/null", "DGT"), ("/dev/zero",), ("/dev/full", "FTDI", None, None, "0403:6001")),
+     "several boards: name the port of one of them: /dev/null DGT; /dev/full FTDI 0403:6001")]
+"""Ports of machines on which no board is found, and what is printed."""
+
+
+def check_no_board(*words):
+    """A program without a port ends if there is no likely board, or if there are several."""
+    for found, said in NO_BOARD:
+        check_ends([(words, 1, f"dgt-{words[0]}: {said}")], program=with_ports(*found))
+
+
+def run(*words, before=(), program=PROGRAM, **environment):
     """Runs a program of the package to its end, and gives its status and both outputs."""
-    words = [*before, *PROGRAM, *map(str, words)]
+    words = [*before, *program, *map(str, words)]
     ran = subprocess.run(words, capture_output=True, text=True, timeout=SECONDS, check=False,
                          stdin=subprocess.DEVNULL, cwd="/", env=ENVIRONMENT | environment)
     wanted(f"a traceback of {words}: {ran.stderr}", "Traceback" in ran.stderr, False)

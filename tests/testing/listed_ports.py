@@ -1,6 +1,7 @@
 """Checks the list of serial ports of the package for Python, with folders instead of /dev and
 /sys."""
 
+import errno
 import os
 import subprocess
 import sys
@@ -35,6 +36,7 @@ RIGHT = [
     ("ttyUSB0", None, None, None, "0003:?"),
     ("ttyUSB10", None, None, None, None),
 ]
+NO_BOARD = "no board: plug it in, or name its port (no serial port of USB or Bluetooth)"
 NONE = "no serial port of USB or Bluetooth (plug the board in)"
 
 
@@ -73,6 +75,31 @@ class ListedPorts(cases.Case):
         wanted("ports", dgt.ports(**folders), right)
         lines = [" ".join([f"{dev}/{name}", *filter(None, said)]) for name, *said in RIGHT]
         wanted("lines", printed(**folders), lines)
+
+    def test_only_board(self):
+        """The only likely board is found. What is found otherwise is in the error."""
+        dev, sysfs = self.folder / "dev", self.folder / "sys"
+        usb = sysfs / "devices/usb1"
+
+        def found():
+            try:
+                return dgt.find_port(dev=str(dev), sysfs=str(sysfs))
+            except OSError as fault:
+                return fault.errno, fault.strerror
+
+        wanted("no port", found(), (errno.ENODEV, NO_BOARD))
+        (dev / "serial/by-id").mkdir(parents=True)
+        plug_in(dev, sysfs)
+        others = "; ".join(map(str, dgt.ports(dev=str(dev), sysfs=str(sysfs))))
+        unlikely = f"no port is likely a board's. If one of these is, name it: {others}"
+        wanted("no board", found(), (errno.ENODEV, unlikely))
+        (usb / "1-3/product").write_text("DGT Board")
+        wanted("a board", found(), f"{dev}/ttyUSB0")
+        (usb / "1-1/idVendor").write_text("0403")
+        (usb / "1-1/idProduct").write_text("6001")
+        wanted("two boards", found(), (
+            errno.ENOTUNIQ, f"several boards: name the port of one of them: {dev}/serial/by-id/"
+            f"usb-A Maker A board 00001 0403:6001; {dev}/ttyUSB0 DGT Board 0003:?"))
 
     def test_machine(self):
         for port in dgt.ports():

@@ -489,6 +489,19 @@ class Handed(SerialPort):
         return self.take(size)
 
 
+class Waiting(SerialPort):
+    """A port from which nothing can be read while it is late."""
+
+    is_late = True
+
+    @property
+    def in_waiting(self):
+        return 0 if self.is_late else len(self.sent)
+
+    def read(self, size):
+        return b"" if self.is_late else self.take(size)
+
+
 class Lines(OnALine):
     def test_handed(self):
         """A line that is passed to it ends it when it is closed, and is left open by it."""
@@ -509,6 +522,16 @@ class Lines(OnALine):
         wanted("whether it is open", port.is_open, True)
         wanted("a fault of its own", [see(view) for view in dgt.follow(port)],
                [(LIFTED, False, None), (LIFTED, True, "this one fails")])
+
+    def test_late_caller(self):
+        """An answer that has waited in the port for its reader doesn't make the board silent."""
+        port = Waiting(self.line.board)
+        with dgt.follow(port, 60) as board:
+            wanted("before the answer", board.wait(0), None)
+            port.is_late = False
+            time.sleep(1.1)  # the request is repeated after a second
+            expect("an answer that was there", board, (START, False, None))
+            wanted("more", board.wait(0), None)
 
     def test_handed_fails(self):
         """A line that is closed or fails ends in doubt, and so does its iteration. A fault of

@@ -1,40 +1,17 @@
-"""The recogniser of games of the package for Python, `dgt.recogniser`: how it reads the library's
-events, and what it refuses. move_cases.py has its games."""
+"""What the recogniser of games of the package for Python, `dgt.recogniser`, refuses. move_cases.py
+and games.txt have its games."""
 
 import contextlib
 import copy
 
 import cases
 import dgt
-from dgt import _c, recogniser
-from dgt.chess import Colour, State
-from dgt.recogniser import Back, Begun, Ended, Found, Gap, Lost, Made, Recogniser, Unseen
+from dgt.chess import Colour
+from dgt.recogniser import Recogniser
 from wrong import wanted
-
-START = State.start()
-STATE = {"state": _c.ChessStateStruct.from_buffer_copy(START._held)}
-MOVES = {"moves": (_c.ChessMoveStruct * _c.MAX_UNSEEN)((52, 36), (8, 1, 6), (57, 42))}
-# Members of the library's struct, and the event that they report.
-EVENTS = [
-    (STATE | {"kind": _c.GAME_BEGUN, "turned": 1}, Begun(START, True)),
-    (MOVES | {"kind": _c.GAME_MADE, "count": 1}, Made("e2e4")),
-    (MOVES | {"kind": _c.GAME_UNSEEN, "count": 3}, Unseen(("e2e4", "a7b8q", "b1c3"))),
-    (STATE | {"kind": _c.GAME_GAP, "count": 2}, Gap(2, START)),
-    ({"kind": _c.GAME_BACK, "count": 4}, Back(4)),
-    ({"kind": _c.GAME_ENDED, "result": _c.RESULT_WHITE_WINS}, Ended("1-0")),
-    ({"kind": _c.GAME_ENDED, "result": _c.RESULT_BLACK_WINS}, Ended("0-1")),
-    ({"kind": _c.GAME_ENDED, "result": _c.RESULT_DRAW}, Ended("1/2-1/2")),
-    ({"kind": _c.GAME_LOST, "squares": 1 << 63 | 1 << 52 | 1}, Lost(("a8", "e2", "h1"))),
-    ({"kind": _c.GAME_FOUND}, Found()),
-]
 
 
 class Recognised(cases.Case):
-    def test_events(self):
-        for members, event in EVENTS:
-            told = _c.GameEventStruct(**members)
-            wanted(repr(event), recogniser._read_event(told), event)
-
     def test_nothing_seen(self):
         games = Recogniser()
         wanted("a new one", (games.state, games.due_at(), games.due(0), games.see(5, None)),

@@ -1407,8 +1407,8 @@ enum {
     DGT_GAME_MADE = 2,   /* a move was made: moves[0]; count is 1 */
     DGT_GAME_UNSEEN = 3, /* moves were made, of which only the position after the last was shown:
                             count, moves. No other legal line of as many leads there */
-    DGT_GAME_GAP = 4,    /* moves were made that aren't known, since several legal lines of as many
-                            lead to the position: count, and the state after one of these lines */
+    DGT_GAME_GAP = 4,    /* moves were made, but it isn't known which. Some legal line of as many
+                            leads to the state, whose position was shown: count, state */
     DGT_GAME_BACK = 5,   /* moves are taken back, of the last DGT_GAME_MADE, DGT_GAME_UNSEEN or
                             DGT_GAME_GAP: count */
     DGT_GAME_ENDED = 6,  /* the game has ended: result */

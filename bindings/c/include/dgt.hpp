@@ -1527,8 +1527,8 @@ struct Made { chess::Move move; };
 /// These moves were made, and only the position after the last was shown. No other legal line of as
 /// many moves leads there.
 struct Unseen { std::vector<chess::Move> moves; };
-/// `count` moves were made, and several legal lines lead to the position. The state is the one
-/// after one of them.
+/// `count` moves were made, and only the position after the last was shown. Some legal line of as
+/// many leads to the state, but it isn't known which was made.
 struct Gap { unsigned count; chess::State state; };
 /// `count` moves are taken back: those of the last Made, Unseen or Gap.
 struct Back { unsigned count; };

@@ -35,7 +35,8 @@ whole chunk first.
 
 The package contains::
 
-    follow, ports   follow the board on a port, and list the ports; follow_async uses asyncio
+    follow          follows the board on a port; follow_async uses asyncio
+    find_port       finds the port of the only board; ports lists the ports
     Host            makes commands, takes in a board's bytes, keeps the picture and the clock
     Follower        is a host that repeats its requests, so that its picture becomes right again
     Decoder         turns a board's bytes into events; CommandDecoder a host's into commands
@@ -46,6 +47,7 @@ The package contains::
     recogniser      has a Recogniser, which reports the games that are played on a board
     Games, PgnFile  make games from the pictures, and keep them in a file; PgnGame, san write PGN
     WhiteClock      learns which side of the clock is White's
+    is_proved       is False for a library that bindings/c/build only compiled
 
 A Host, Follower, Decoder, CommandDecoder, Board and Recogniser is one of the library libdgt, in
 memory that Python owns. The Rattle code of libdgt is proved; all else, such as World, is written in
@@ -54,6 +56,7 @@ another thread, and raises `Nested` within a call of its own thread. A process t
 another thread was in a call of an object must not use that object: its calls would wait for ever.
 """
 
+from ._library import is_proved
 from ._pgn_file import KeptGame, PgnFile
 from ._version import VERSION
 from .board import Board, Identity, Mode
@@ -76,7 +79,7 @@ from .logging_board import LoggingBoard
 from .names import BatteryState, Button, ClockVersion, Done, Off, Pressed, Ready, Signal
 from .pgn import PgnGame, PgnMove, san
 from .rules import START_FEN, GameState
-from .serial_ports import SerialPort, ports
+from .serial_ports import SerialPort, find_port, ports
 from .stored import (STORED_REQUEST, Mark, Stored, StoredPiece, StoredTime, UnknownByte,
                      read_stored)
 from .values import (LETTERS, SQUARES, Clock, NoClock, Position, Time, Times, piece_code, segment,
@@ -97,6 +100,6 @@ __all__ = [
     "START_FEN", "STORED_REQUEST", "Serial", "SerialLine", "SerialPort", "Signal", "Stored",
     "StoredPiece", "StoredTime", "Stray", "StrayByte", "Time", "Times", "TooManyAwaited",
     "Trademark", "UnknownByte", "Version", "WhiteClock", "Word", "World", "encode_command",
-    "encode_message", "follow", "follow_async", "piece_code", "ports", "read_stored", "san",
-    "segment", "square_number", "view_command", "view_message",
+    "encode_message", "find_port", "follow", "follow_async", "is_proved", "piece_code", "ports",
+    "read_stored", "san", "segment", "square_number", "view_command", "view_message",
 ]

@@ -1,4 +1,4 @@
-"""The programs of the package, such as `python -m dgt game PORT`."""
+"""The programs of the package, such as `python -m dgt game`."""
 
 import sys
 from collections.abc import Callable
@@ -11,15 +11,17 @@ _PROGRAMS: dict[str, Callable[[list[str]], None]] = {
 _USAGE = """\
 usage: python -m dgt PROGRAM ..
 
-  game PORT         prints the moves made on a board, and writes a PGN file
-  uci [PORT]        plays in chess programs, as a UCI engine
-  livechess [PORT]  plays on lichess.org and other sites that use LiveChess
-  ports             lists the serial ports that may be boards
-  doctor PORT       examines a board, and writes a report
-  record PORT FILE  records what a board and a program send
-  replay FILE       plays a recorded session
+  game [PORT]         prints the moves made on a board, and writes a PGN file
+  game --demo         does so with a simulated board
+  uci [PORT]          plays in chess programs, as a UCI engine
+  livechess [PORT]    plays on lichess.org and other sites that use LiveChess
+  ports               lists the serial ports that may be boards
+  doctor [PORT]       examines a board, and writes a report
+  record [PORT] FILE  records what a board and a program send
+  replay FILE         plays a recorded session
 
-`python -m dgt PROGRAM --help` describes a program."""
+Without a PORT they use the only board. `python -m dgt PROGRAM --help` describes
+a program."""
 
 if __name__ == "__main__":
     if sys.argv[1:2] and sys.argv[1] in _PROGRAMS:

@@ -4,6 +4,7 @@ import contextlib
 import os
 import time
 from collections import deque
+from collections.abc import Iterable
 
 from ._findings import FINDINGS
 from ._port import has_input
@@ -22,6 +23,12 @@ LOOK = 0.5
 LONGEST = 3600.0
 LEFT_OUT = "left out: the board doesn't answer"
 _DRAUGHTS = 103
+_ANSWERED = ("version", "serial", "trademark", "clock")
+"""The requests that each board answers. Not each has a battery, or a long serial number."""
+_DAMAGED = {"altered bytes", "another board's code", "clock unreadable"}
+"""Findings that explain a missing answer."""
+_UNEXPLAINED = ("order", "quiet", "idle", "later")
+"""The statements without a finding of their own."""
 _DONE = 0x10
 
 
@@ -70,7 +77,7 @@ class Examination:
         self.facts, self.delays = dict[str, str](), dict[str, list[float]]()
         self.fields = list[tuple[str, str]]()
         """The reported squares since the list was cleared."""
-        self._has_missed = self._has_recovered = self.is_understood = False
+        self._has_missed = self._has_recovered = self.is_understood = self.has_ended = False
         self._faults = dict[str, str]()
         """The findings before the first message that was understood."""
         self._raw, self._queue = b"", deque[Event]()
@@ -99,12 +106,26 @@ class Examination:
         self.hold("faults", True)
         if self._has_missed:
             self.find("mode lost" if self._has_recovered else "no updates")
+        if (missing := self._failed(_ANSWERED)) and not _DAMAGED & self.findings.keys():
+            self.find("no answer", ", ".join(missing))
+        if others := self._failed(_UNEXPLAINED):
+            self.find("other behaviour", ", ".join(others))
+        self._judge_steps()
+        if self.has_heard and not self.is_understood:
+            self.find("not understood")
+
+    def _failed(self, statements: Iterable[str]) -> list[str]:
+        return [name for name in statements if not self.held.get(name, (True, ""))[0]]
+
+    def _judge_steps(self) -> None:
         if failed := [name for name, fact in self.facts.items() if fact.startswith("failed: ")]:
             self.find("failed steps", "; ".join(failed))
         if left := [name for name, fact in self.facts.items() if fact == LEFT_OUT]:
             self.find("skipped steps", f"from {left[0]} on")
-        if self.has_heard and not self.is_understood:
-            self.find("not understood")
+        undone = [name for name, fact in self.facts.items()
+                  if fact != LEFT_OUT and fact.startswith(("skipped", "left out"))]
+        if undone := undone + ["ended early"] * self.has_ended:
+            self.find("unfinished", "; ".join(undone))
 
     # ---- The line
 
@@ -216,13 +237,31 @@ class Examination:
             self.find("late answers", f"{what} after {delay:.1f} s")
         return answer
 
-    def dump(self, tries: int = 3) -> Dump | None:
-        """Requests all squares, up to three times until they are reported."""
+    def request(self, question: Ask, kinds: tuple[type[Event], ...], what: str, tries: int = 2,
+                may_be_off: bool = False) -> Event | None:
+        """Sends a request, up to `tries` times until it is answered. Notes answers that were lost,
+        unless the board may be off."""
+        has_lost = False
         for _ in range(tries):
-            answer = self.ask(self.host.send(Ask.DUMP), (Dump, Refused), "dump")
-            if isinstance(answer, Dump):
+            answer = self.ask(self.host.send(question), kinds, what)
+            if answer is not None and not isinstance(answer, Refused):
+                if has_lost and not may_be_off:
+                    self.lose(kinds, what)
                 return answer
+            has_lost = has_lost or answer is None
         return None
+
+    def lose(self, kinds: tuple[type[Event], ...], what: str) -> None:
+        """Notes that an answer was lost. If it was only late, another one follows."""
+        if self.await_event(kinds, PATIENCE):
+            self.find("late answers", f"{what} after more than {PATIENCE:.0f} s")
+        else:
+            self.find("lost answers", what)
+
+    def dump(self, tries: int = 3, may_be_off: bool = False) -> Dump | None:
+        """Requests all squares, up to three times until they are reported."""
+        answer = self.request(Ask.DUMP, (Dump, Refused), "dump", tries, may_be_off)
+        return answer if isinstance(answer, Dump) else None
 
     def begin_anew(self, unfinished: bytes = b"") -> bool:
         """Sends what a follower sends to start over, after the bytes of an unfinished command.
@@ -234,11 +273,15 @@ class Examination:
     def send_clock(self, message: bytes, id: ClockId) -> Ack | None:
         """Sends a message to the clock, up to three times until it is acknowledged. Returns the
         acknowledgement."""
+        has_lost, what = False, f"clock message {id:02x}"
         for _ in range(3):
-            ack = self.ask(message, (Ack,), f"clock message {id:02x}")
+            ack = self.ask(message, (Ack,), what)
             if isinstance(ack, Ack) and ack.ack[:2] == bytes([_DONE, id]):
                 self.hold("acks", True)
+                if has_lost:
+                    self.lose((Ack,), what)
                 return ack
+            has_lost = has_lost or ack is None
             self.await_event((), LOOK)
         self.hold("acks", False, f"id {id:02x}")
         self.find("clock refused", f"id {id:02x}")

@@ -14,8 +14,12 @@ FINDINGS = {
     "unknown. Attach this report to a bug report: the board may be of another kind",
     "late answers": "an answer took more than a second. Programs consider it lost, and ask again. "
     "Try another cable or socket, without a hub; bring a Bluetooth board closer",
-    "mode lost": "it stopped reporting changes by itself, and started again on request. It may "
-    "have lost its power for a moment: check cable and battery",
+    "no answer": "it didn't answer a request, nor its repetition. Switch it off and on, and start "
+    "again. If that changes nothing, attach this report to a bug report",
+    "lost answers": "it answered a request only when that was repeated. Try another cable or "
+    "socket, without a hub; bring a Bluetooth board closer",
+    "mode lost": "it didn't report a change by itself, and later ones on request. It may have lost "
+    "its power for a moment, or the line a message: check cable and battery",
     "no updates": "it doesn't report changes by itself, though this was requested. Programs see a "
     "move only with the next report of all squares",
     "clock refused": "a clock is connected, but didn't acknowledge a message in three attempts. "
@@ -28,9 +32,13 @@ FINDINGS = {
     "describe. It may be a newer board or another maker's. Attach this report to a bug report",
     "new beginning": "it doesn't answer after zeros that complete a half-sent command. If a byte "
     "is lost, switch it off and on. Attach this report to a bug report",
+    "other behaviour": "it does something else than docs/PROTOCOL.md says. Attach this report to a "
+    "bug report",
     "failed steps": "the board didn't show what was done. Each failed step says what to do",
     "skipped steps": "the board didn't report all squares in three attempts. Switch it off and on, "
     "and start again",
+    "unfinished": "not every step was done, so nothing is known of the others. Connect a clock, "
+    "start again, and do each step",
     "port gone": "the port disappeared during the examination. Check the cable, and start again",
 }
 """The meaning of each finding, and what to do."""

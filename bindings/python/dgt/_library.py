@@ -19,9 +19,8 @@ def _place() -> str:
 
 
 def _load() -> ctypes.CDLL:
-    """Loads the library. `ImportError` if it is missing or another library, if it isn't proved and
-    DGT_LIBRARY doesn't name it, or if Python isn't CPython: the package needs the address of an
-    object's bytes."""
+    """Loads the library. `ImportError` if it is missing or another library, or if Python isn't
+    CPython: the package needs the address of an object's bytes."""
     if sys.implementation.name != "cpython":
         raise ImportError(f"the package dgt needs CPython: this is {sys.implementation.name}")
     place = _place()
@@ -30,8 +29,6 @@ def _load() -> ctypes.CDLL:
     except OSError as fault:
         raise ImportError(f"the library of the package dgt can't be loaded: {fault}. Make it with "
                           "bindings/c/build, or name it in DGT_LIBRARY") from fault
-    if hasattr(library, "dgt_unproved") and not os.environ.get("DGT_LIBRARY"):
-        raise ImportError(f"{place} is not proved: only DGT_LIBRARY may name such a library")
     another = f"{place} is another library, not that of this package dgt"
     try:
         _declare(library)
@@ -50,3 +47,4 @@ def _declare(library: ctypes.CDLL) -> None:
 
 
 dgt = _load()
+is_proved = not hasattr(dgt, "dgt_unproved")

@@ -73,8 +73,7 @@ class Broker:
         client.on_message = lambda _client, _data, message: call(
             self._hear, message.topic, message.payload)
         self._loop = asyncio.get_running_loop()
-        client.connect_async(host, port)
-        client.loop_start()
+        _mqtt.begin(client, host, port, lambda text: call(say, text))
 
     def _call(self, function: Any, *words: Any) -> None:
         with contextlib.suppress(RuntimeError):  # the loop has ended

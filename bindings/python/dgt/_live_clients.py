@@ -17,7 +17,7 @@ change:
 `serialnr` is the board's number, or the name of its port before the number is known; `subscribe`
 also takes the path of the port, which `source` contains. A feed that names a board by its number
 follows it to another port. `board` is null until the board has reported its squares, and while
-another board is on its port.
+another board is on its port, or one that reports no number.
 
 Each feed has its own game, which begins without moves. `setup` begins a new list of moves:
 

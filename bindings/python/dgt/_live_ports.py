@@ -10,8 +10,10 @@ from dataclasses import replace
 from ._board_with_clock import BoardWithClock
 from ._live_boards import Board, say
 from .board import Mode
+from .commands import Ask
+from .errors import TooManyAwaited
 from .following import BoardView
-from .serial_ports import SerialPort, ports
+from .serial_ports import is_likely, ports
 from .values import SQUARES, Position, square_number
 
 _PERIOD = 2.0
@@ -19,7 +21,8 @@ _PERIOD = 2.0
 _LOOK = 2.0
 """The seconds between two looks for ports."""
 _NUMBER_WAIT = 5.0
-"""The seconds for which a board that comes back and reports no number may be another one."""
+"""The seconds after which a board that comes back and reports no number counts as one without a
+number, and between two more requests for it."""
 _AT_ONCE = 64
 """The most changes of a board that are handled before other boards have their turn."""
 
@@ -35,7 +38,7 @@ class PortBoard(Board):
         self._descriptor: int | None = None
         self._asked: Position | None = None
         self._pending: tuple[str, bool] | None = None
-        self._is_late, self._back_at = False, float("-inf")
+        self._is_late, self._back_at, self._asked_at = False, float("-inf"), float("-inf")
         self.turn()
 
     def turn(self) -> None:
@@ -45,6 +48,9 @@ class PortBoard(Board):
                 self._is_late = False
                 break
             self.see(self._identified(view, now))
+        if not self._is_late and (last := self._identified(self._line.view, now)) != self.view:
+            self.see(last)  # the number has arrived, or has not arrived in time
+        self._ask_number(now)
         self._watch(self._line.descriptor)
         is_unconfirmed = any(game.watched.unconfirmed for game in self.games)
         if is_unconfirmed and self.view.picture != self._asked:
@@ -53,12 +59,28 @@ class PortBoard(Board):
         super().turn()
 
     def _identified(self, view: BoardView, now: float) -> BoardView:
-        """Returns the view, in doubt while the board that has come back may be another one."""
+        """Returns the view if it is of the board whose number it has. A board that has come back
+        may be another one: until it has reported its number, returns the last view, in doubt, and
+        after a while the view without a number."""
         if view.away is not None:
             self._back_at = now
-        is_known = view.serial is None or self._line.follower.serial is not None
-        return view if is_known or now >= self._back_at + _NUMBER_WAIT else replace(
-            view, in_doubt=True)
+            return replace(self.view, in_doubt=True, away=view.away, confirmed=False)
+        number = self._line.follower.serial
+        if view.serial is None or (number is not None and view.serial == number.decode("latin-1")):
+            return view
+        if now >= self._back_at + _NUMBER_WAIT:
+            return replace(view, serial=None)
+        return replace(self.view, in_doubt=True, away=None, confirmed=False)
+
+    def _ask_number(self, now: float) -> None:
+        """Requests the number of a board that has come back, also after the follower's three
+        requests for it."""
+        line, begun = self._line, max(self._back_at, self._asked_at)
+        is_unknown = line.view.serial is not None and line.follower.serial is None
+        if is_unknown and line.view.away is None and now >= begun + _NUMBER_WAIT:
+            self._asked_at = now
+            with contextlib.suppress(TooManyAwaited):
+                line.write(line.follower.send(Ask.SERIAL))
 
     def _dues(self) -> Iterable[float | None]:
         now = time.monotonic()
@@ -92,13 +114,6 @@ class PortBoard(Board):
         self._watch(None)
         super().close()
         self._line.close()
-
-
-def is_likely(port: SerialPort) -> bool:
-    """Returns whether a port is likely a board's: its USB device names DGT, or is the FTDI
-    converter that the udev rule for boards names."""
-    return port.usb_id == "0403:6001" or any(
-        "DGT" in name for name in (port.vendor, port.product) if name)
 
 
 async def look_for_ports(boards: list[Board], has_clock: bool, has_lights: bool) -> None:

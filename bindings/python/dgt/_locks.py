@@ -25,7 +25,8 @@ def lock(number: int, tries: int, program: str = "program") -> None:
 
 def hold(path: str, program: str) -> None:
     """Keeps a file for this process of a program, until it ends. The lock is that of a file next to
-    it, since others may replace the file itself. `OSError` if another process keeps it."""
+    it, since others may replace the file itself. `OSError` if another process keeps it, or if the
+    lock is a link, which may lead to any other file."""
     folder, name = os.path.split(os.path.realpath(path))
-    number = os.open(f"{folder}/.{name}.lock", os.O_CREAT, 0o666)
+    number = os.open(f"{folder}/.{name}.lock", os.O_CREAT | os.O_NOFOLLOW, 0o666)
     lock(number, 0, f"{program} (end that one, or choose another file)")

@@ -5,8 +5,14 @@ import importlib
 import os
 import ssl
 import sys
+import time
+import traceback
 from collections.abc import Callable
 from typing import Any
+
+_KEEPALIVE = 15
+"""Seconds after which a silent broker is asked whether it is there, and after as many more given
+up. After 22 it takes a silent client for gone."""
 
 
 def say(program: str, text: str) -> None:
@@ -80,5 +86,30 @@ def connect(mqtt: Any, client: Any, host: str, port: int, report: Callable[[str]
                    "until it does")
 
     client.on_connect, client.on_connect_fail = connected, failed
-    client.connect_async(host, port)
+    begin(client, host, port, report)
+
+
+def begin(client: Any, host: str, port: int, report: Callable[[str], None]) -> None:
+    """Connects a client in a separate thread, which reconnects, also after bytes that aren't MQTT:
+    these end the module's loop. If that fails, the process ends, since it would never hear the
+    broker again. What it has to keep is on the disk."""
+    loop = client.loop_forever
+
+    def loop_forever(*words: Any, **how: Any) -> Any:
+        while True:
+            try:
+                return loop(*words, **how)
+            except Exception as fault:
+                report(f"the broker at {host} port {port} sends what isn't MQTT ({fault}); it is "
+                       "connected again")
+            try:
+                client.on_disconnect(client, None, 1)
+                time.sleep(1)
+                client.connect_async(host, port, _KEEPALIVE)
+            except Exception:
+                report(traceback.format_exc())
+                os._exit(1)
+
+    client.loop_forever = loop_forever
+    client.connect_async(host, port, _KEEPALIVE)
     client.loop_start()

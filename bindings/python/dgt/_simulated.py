@@ -12,7 +12,7 @@ from collections.abc import Iterable
 
 from .board import Board
 from .logging_board import LoggingBoard
-from .values import Clock, Time, Times
+from .values import SQUARES, Clock, Time, Times
 
 _RUNNING, _TURNS = 0x01, (0x10, 0x08)  # bits of a clock's status: it runs; the side to move
 _POLLING = 50
@@ -135,6 +135,19 @@ class PluggedBoard:
             for square, piece in changes:
                 self.board.change(square, piece)
             self.report()
+
+    def show(self, letters: str, pause: float) -> None:
+        """Moves pieces, with pauses of this number of seconds, until the board shows these 64
+        letters. A captured piece is removed first."""
+        before = self.board.position.letters
+        changed = [at for at in range(64) if before[at] != letters[at]]
+        lifted = sorted((at for at in changed if before[at] != "."),
+                        key=lambda at: letters[at] == ".")
+        steps = [(at, ".") for at in lifted]
+        steps += [(at, letters[at]) for at in changed if letters[at] != "."]
+        for number, (at, letter) in enumerate(steps):
+            time.sleep(pause if number else 0)
+            self.put((SQUARES[at], letter))
 
     def hand_clock(self, clock: Clock) -> None:
         with self.lock:

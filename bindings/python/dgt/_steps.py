@@ -114,19 +114,24 @@ def _move(board: Examination, step: Step, goal: Position) -> str:
             return ""
         return f"{_differences(shown, goal)}. Press Enter if the pieces stand right"
 
-    is_noticed = _watch(board, lambda _: board.host.picture == goal and must <= {*board.fields},
-                        hint)
+    def is_done(_: object = None) -> bool:
+        return board.host.picture == goal and must <= {*board.fields}
+
+    is_noticed = _watch(board, is_done, hint)
+    if not is_noticed:
+        board.await_event((), LOOK)  # changes that are on their way
+        is_noticed = is_done()
     dump = board.dump()
     if dump is None:
         return _NO_ANSWER
     if dump.position != goal and is_noticed:
         board.find("altered bytes", f"the changes and the report of all squares differ in "
                    f"{step.name}")
-    if dump.position == goal and must:
+    if dump.position == goal:
         board.hold("fields", is_noticed, "" if is_noticed else step.name)
         if not is_noticed:
             board.miss()
-            return "the board didn't report it by itself"
+            return "the board didn't report it by itself" if must else ""
     return _differences(dump.position, goal)
 
 
@@ -219,7 +224,7 @@ def _button(event: Event) -> str:
 def _away(board: Examination, step: Step, before: Position) -> str:
     """The board is disconnected, and comes back with the same pieces."""
     with contextlib.suppress(OSError):
-        while board.dump():
+        while board.dump(may_be_off=True):
             board.await_event((), LOOK)
             if (line := board.person.typed()) is not None:
                 if line == "s":

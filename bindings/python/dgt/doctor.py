@@ -1,8 +1,12 @@
 """Examines a board: it requests everything, and asks you to do twelve things.
 
+Example:
+  $ dgt-doctor --report report.txt
+
 Set up the pieces, play a move, press the clock, pull the cable, and so on: each
 step says what to do, and is checked as it happens. Press s and Enter to skip a
 step, and q and Enter to end early. Without a clock, its steps are left out.
+Nothing is found only if every step was done.
 
 The report is a text file for a bug report. It contains the board's model and
 versions, what was found and what to do about it, the statements of
@@ -13,7 +17,6 @@ Exit status: 0 if nothing was found, and 1 if something was, or if the port
 can't be opened.
 """
 
-import argparse
 import errno
 import os
 import platform
@@ -25,6 +28,7 @@ from typing import TextIO
 
 from ._examination import LEFT_OUT, LONGEST, LOOK, Examination, Person, Stopped
 from ._findings import FINDINGS, STATEMENTS
+from ._manual import make_parser
 from ._port import stopping
 from ._session import Recorder
 from ._steps import STEPS, do_step
@@ -32,7 +36,7 @@ from ._version import VERSION
 from .commands import Ask, ClockId
 from .events import Battery, Dump, Event, LongSerial, Serial, Trademark, Version
 from .names import BatteryState
-from .serial_ports import ports
+from .serial_ports import chosen_port, ports
 from .values import NoClock, Times
 
 _QUESTIONS: list[tuple[str, Ask, tuple[type[Event], ...]]] = [
@@ -59,7 +63,10 @@ _BUSY = (errno.EWOULDBLOCK, errno.EBUSY)
 def _is_there(board: Examination) -> bool:
     """Whether the board answers: at once, after zeros, or once it was switched off and on. If bytes
     come, but no message, it may be another device."""
-    if board.dump(tries=1) or board.begin_anew() and board.is_understood:
+    if board.dump(tries=1):
+        return True
+    if board.begin_anew() and board.is_understood:
+        board.lose((Dump,), "the first dump")
         return True
     if board.has_heard:
         return any(board.ask(board.host.send(question), kinds, what)
@@ -81,7 +88,7 @@ def _ask_all(board: Examination) -> None:
     """Sends each request of the protocol, one by one and then all at once."""
     for what, question, kinds in _QUESTIONS:
         answer = (board.dump() if question == Ask.DUMP else
-                  board.ask(board.host.send(question), kinds, what))
+                  board.request(question, kinds, what))
         board.hold(what, answer is not None)
         board.person.say(f"{what}: {_shown(answer)}")
         if answer is not None and not isinstance(answer, NoClock):
@@ -93,7 +100,10 @@ def _ask_all(board: Examination) -> None:
     every = tuple(kind for _, kinds in known for kind in kinds)
     asked = b"".join(board.host.send(question) for question, _ in known)
     answers = [board.ask(b"" if at else asked, every, "several") for at in range(len(known))]
-    board.hold("order", all(map(isinstance, answers, [kinds for _, kinds in known])))
+    if None in answers:
+        board.find("lost answers", "several at once")
+    else:
+        board.hold("order", all(map(isinstance, answers, [kinds for _, kinds in known])))
 
 
 def _shown(answer: Event | None) -> str:
@@ -179,7 +189,7 @@ def _run(name: str, file: TextIO, begun: str) -> bool:
     try:
         _examine(board)
     except Stopped:
-        pass
+        board.has_ended = True
     except OSError:
         board.find("port gone")
     finally:
@@ -194,15 +204,14 @@ def _run(name: str, file: TextIO, begun: str) -> bool:
 def main(arguments: list[str] | None = None) -> None:
     """Runs the program `dgt-doctor` with these arguments, or those of the process."""
     begun = time.strftime("%Y-%m-%d %H:%M:%S UTC", time.gmtime())
-    parser = argparse.ArgumentParser(
-        prog="dgt-doctor", description=__doc__, allow_abbrev=False,
-        formatter_class=argparse.RawDescriptionHelpFormatter)
-    parser.add_argument("port", help="the board's serial port, such as /dev/ttyUSB0")
+    parser = make_parser("dgt-doctor", __doc__)
+    parser.add_argument("port", nargs="?", help="the board's serial port, such as /dev/ttyUSB0 "
+                        "(that of the only board)")
     parser.add_argument("--report", metavar="FILE", default=time.strftime(
         "dgt-doctor-%Y%m%d-%H%M%S.txt"), help="the file for the report; it must not exist yet "
         "(dgt-doctor-DATE-TIME.txt)")
     args = parser.parse_args(arguments)
-    what = args.report
+    args.port, what = chosen_port("dgt-doctor", args.port), args.report
     try:
         file = open(args.report, "x", encoding="utf-8", errors="backslashreplace")
         what = args.port

@@ -151,6 +151,11 @@ class _Steps:
         self._missing = None
         self._note()
 
+    def is_overdue(self, now: float) -> bool:
+        """Whether a request is due, and nothing was heard since the last one."""
+        due = self.follower.due_at
+        return self._is_unanswered() and due is not None and due <= now
+
     def _is_unanswered(self) -> bool:
         """Whether nothing was heard since a request."""
         heard = self.follower.last_heard
@@ -366,9 +371,12 @@ class Following(_Followed):
 
     def _converse(self, line: Port | _Given, now: float, until: float | None,
                   wakes: int | None) -> None:
-        if asked := self._steps.ask(now):
+        # If this is called late, an overdue answer may have arrived: it is heard first.
+        is_overdue = self._steps.is_overdue(now)
+        if not is_overdue and (asked := self._steps.ask(now)):
             line.ask(asked)
-        wait = 0.0 if self._steps.changes else self._steps.seconds_left(now, until)
+        is_ready = is_overdue or self._steps.changes
+        wait = 0.0 if is_ready else self._steps.seconds_left(now, until)
         try:
             chunk = line.exchange(wait, wakes)
         except OSError as fault:
@@ -379,6 +387,8 @@ class Following(_Followed):
             now = time.monotonic()
             self._steps.is_disturbed = line.is_disturbed(now)
             self._hear(chunk, now)
+            if is_overdue and (asked := self._steps.ask(now)):
+                line.ask(asked)
 
     def _hear(self, chunk: bytes, now: float) -> None:
         self._steps.hear(chunk, now)

@@ -1,5 +1,10 @@
 """Prints the moves that are made on a board, and keeps the games in a PGN file.
 
+Examples:
+  $ dgt-game --demo
+  $ dgt-game --pgn games.pgn --white Ann --black Ben
+  $ dgt-game /dev/ttyUSB0 --log --pgn games.pgn
+
 Standard output gets a line for each event:
 
     game FEN                    a game begins with this position
@@ -73,13 +78,16 @@ no byte arrives for five seconds, dgt-game says so and ends with status 1.
 """
 
 import argparse
+import contextlib
 import os
 import select
 import sys
 import time
 
+from . import _demo
 from ._board_with_clock import PATIENCE
 from ._logged import LoggedGames, NoLog, Stopped, ask_for_log
+from ._manual import make_parser
 from ._pgn_file import PgnFile
 from ._port import has_input, stopping
 from .board import Mode
@@ -87,6 +95,7 @@ from .clock_side import SIDES
 from .errors import BadFen
 from .following import Following, follow
 from .games import Games
+from .serial_ports import chosen_port
 from .uci import period
 from .values import Position
 
@@ -125,11 +134,15 @@ class _Output:
         return not self._unsent
 
 
-def _record(board: Following, games: Games, output: _Output, notes: _Output) -> None:
-    """Records the games on a board until a signal, or until nobody reads the output."""
+def _record(board: Following, games: Games, output: _Output, notes: _Output,
+            is_demo: bool) -> None:
+    """Records the games on a board until a signal, or until nobody reads the output. A
+    demonstration also ends with its game."""
     stop = stopping()
     asked: Position | None = None
     while not output.is_broken and not has_input(stop, 0.0):
+        if is_demo and games.game and games.game.result != "*":
+            break
         due = games.due
         if not all([output.send(), notes.send()]):
             later = time.monotonic() + _OUTPUT_WAIT
@@ -145,10 +158,12 @@ def _record(board: Following, games: Games, output: _Output, notes: _Output) -> 
 
 
 def _read_args(arguments: list[str] | None) -> argparse.Namespace:
-    parser = argparse.ArgumentParser(
-        prog="dgt-game", description=__doc__, allow_abbrev=False,
-        formatter_class=argparse.RawDescriptionHelpFormatter)
-    parser.add_argument("port", help="the board's serial port, such as /dev/ttyUSB0")
+    parser = make_parser("dgt-game", __doc__)
+    parser.add_argument("port", nargs="?", help="the board's serial port, such as /dev/ttyUSB0 "
+                        "(that of the only board)")
+    parser.add_argument("--demo", action="store_true",
+                        help="without a port: play the Opera Game of 1858 on a simulated board")
+    parser.add_argument("--fast", action="store_true", help="play it in 12 seconds, not in 50")
     parser.add_argument("--pgn", metavar="FILE", help="the file for the games")
     for name in _TAGS:
         said = " (today)" if name == "date" else ""
@@ -163,6 +178,10 @@ def _read_args(arguments: list[str] | None) -> argparse.Namespace:
     parser.add_argument("--log", action="store_true", help="read the games in the board's log, "
                         "without following the board")
     args = parser.parse_args(arguments)
+    if args.demo and args.port is not None:
+        parser.error("--demo takes no port")
+    if args.demo and (args.fen or args.log) or args.fast and not args.demo:
+        parser.error("--demo takes no --fen and no --log, and only --demo takes --fast")
     if args.log and (args.fen or args.period):
         parser.error("--log takes no --fen and no --period")
     return args
@@ -176,7 +195,7 @@ def _follow(args: argparse.Namespace, file: PgnFile | None, tags: dict[str, str]
     try:
         with follow(args.port, args.period or _PERIOD, patience=PATIENCE, mode=Mode.UPDATE_NICE,
                     confirm=True) as board:
-            _record(board, games, output, notes)
+            _record(board, games, output, notes, args.demo)
     finally:
         is_whole = games.close()
     return is_whole
@@ -214,8 +233,12 @@ def main(arguments: list[str] | None = None) -> None:
     what, is_whole = args.pgn, False
     try:
         file = None if args.pgn is None else PgnFile(args.pgn)
-        what = args.port
-        is_whole = (_read_log if args.log else _follow)(args, file, tags, output, notes)
+        with contextlib.ExitStack() as room:
+            if args.demo:
+                demo = room.enter_context(contextlib.closing(_demo.Demo(args.fast)))
+                args.port, tags = demo.port, _demo.TAGS | tags
+            what = args.port = chosen_port("dgt-game", args.port)
+            is_whole = (_read_log if args.log else _follow)(args, file, tags, output, notes)
     except Stopped:
         pass
     except BadFen as wrong:

@@ -1,5 +1,9 @@
 """Serves boards to lichess.org and other sites that use the program LiveChess.
 
+Examples:
+  $ dgt-livechess
+  $ dgt-livechess /dev/ttyUSB0 --clock
+
 It replaces LiveChess, the program of the boards' maker, and opens the same
 WebSocket on this machine: ws://localhost:1982/api/v1.0. A site such as
 https://lichess.org/dgt connects to it, and gets each move that is made on the
@@ -35,6 +39,7 @@ from ._live_boards import Board, say
 from ._live_broker import Broker
 from ._live_clients import TRY_LATER, Client
 from ._live_ports import PortBoard, look_for_ports
+from ._manual import make_parser
 
 _PATH, _PORT = "/api/v1.0", 1982
 _ORIGINS = ("https://lichess.org", None)
@@ -188,9 +193,7 @@ def _an_origin(text: str) -> str:
 
 
 def _read_words(arguments: Sequence[str] | None) -> argparse.Namespace:
-    parser = argparse.ArgumentParser(
-        prog="dgt-livechess", description=__doc__, allow_abbrev=False,
-        formatter_class=argparse.RawDescriptionHelpFormatter)
+    parser = make_parser("dgt-livechess", __doc__)
     parser.add_argument("ports", nargs="*", metavar="PORT",
                         help="a board's serial port, such as /dev/ttyUSB0")
     parser.add_argument("--broker", metavar="HOST",

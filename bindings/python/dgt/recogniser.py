@@ -59,8 +59,8 @@ class Unseen:
 
 @dataclass(frozen=True, slots=True)
 class Gap:
-    """`count` moves were made, and only the position after the last was shown. Several legal lines
-    lead there: `state` is the state after one of them."""
+    """`count` moves were made, and only the position after the last was shown. Some legal line of
+    as many leads to `state`, but it isn't known which was made."""
 
     count: int
     state: State

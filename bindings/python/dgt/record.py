@@ -1,5 +1,9 @@
 """Records the bytes between a host and a board, with their times.
 
+Examples:
+  $ dgt-record evening.txt
+  $ dgt-record --pass /dev/ttyUSB0 evening.txt
+
 The file is a session: each chunk of bytes is a line, with its time and its
 direction. Each line that you type is added as a note: type what you do on the
 board. Each new position and each fault of the line is noted, too. Press Ctrl-C
@@ -19,12 +23,14 @@ import threading
 from typing import BinaryIO
 
 from ._board_with_clock import PATIENCE
+from ._manual import make_parser
 from ._port import Port, has_input, stopping
 from ._session import RecordedPort, Recorder
 from ._simulated import open_terminal
 from ._version import VERSION
 from .board import Mode
 from .following import Following
+from .serial_ports import chosen_port
 
 _PERIOD = 2.0
 """The seconds between two requests for all squares."""
@@ -107,14 +113,14 @@ def _record(args: argparse.Namespace, file: BinaryIO) -> None:
 
 def main(arguments: list[str] | None = None) -> None:
     """Runs the program `dgt-record` with these arguments, or those of the process."""
-    parser = argparse.ArgumentParser(
-        prog="dgt-record", description=__doc__, allow_abbrev=False,
-        formatter_class=argparse.RawDescriptionHelpFormatter)
-    parser.add_argument("port", help="the board's serial port, such as /dev/ttyUSB0")
+    parser = make_parser("dgt-record", __doc__)
+    parser.add_argument("port", nargs="?", help="the board's serial port, such as /dev/ttyUSB0 "
+                        "(that of the only board)")
     parser.add_argument("file", help="the file for the session; it must not exist yet")
     parser.add_argument("--pass", dest="passes", action="store_true",
                         help="let a program use the board through a pseudo-terminal")
-    args = parser.parse_args(arguments)
+    args = parser.parse_intermixed_args(arguments)  # a FILE after --pass is no second port
+    args.port = chosen_port("dgt-record", args.port)
     signal.signal(signal.SIGTTIN, signal.SIG_IGN)  # or a read in the background stops the program
     what = args.file
     try:

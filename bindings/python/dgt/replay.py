@@ -1,5 +1,8 @@
 """Plays a session that dgt-record or dgt-doctor has written.
 
+Example:
+  $ dgt-replay --speed 10 evening.txt
+
 It prints the name of a pseudo-terminal, which a program opens instead of a
 board's port. The session begins once the program has sent its first bytes. The
 program then gets the board's bytes at the recorded times. A report of all
@@ -18,6 +21,7 @@ import select
 import sys
 import time
 
+from ._manual import make_parser
 from ._session import BadSession, Entry, read_session
 from ._simulated import open_terminal
 from .commands import Ask, Asked
@@ -91,9 +95,7 @@ def _speed(text: str) -> float:
 
 def main(arguments: list[str] | None = None) -> None:
     """Runs the program `dgt-replay` with these arguments, or those of the process."""
-    parser = argparse.ArgumentParser(
-        prog="dgt-replay", description=__doc__, allow_abbrev=False,
-        formatter_class=argparse.RawDescriptionHelpFormatter)
+    parser = make_parser("dgt-replay", __doc__)
     parser.add_argument("file", help="the session")
     parser.add_argument("--speed", type=_speed, default=1.0, metavar="TIMES",
                         help="the speed, as a multiple of the recorded one (%(default)s)")

@@ -1,6 +1,7 @@
 """The serial ports of this machine, and `python -m dgt ports`, which lists them."""
 
 import argparse
+import errno
 import os
 import sys
 from collections.abc import Sequence
@@ -76,6 +77,46 @@ def ports(*, dev: str = "/dev", sysfs: str = "/sys") -> list[SerialPort]:
         found.setdefault(os.path.realpath(path), path)
     return [_described(path, _usb_device(os.path.basename(device), sysfs))
             for device, path in found.items()]
+
+
+def is_likely(port: SerialPort) -> bool:
+    """Returns whether a port is likely a board's: its USB device names DGT, or is the FTDI
+    converter that the udev rule for boards names."""
+    return port.usb_id == "0403:6001" or any(
+        "DGT" in name for name in (port.vendor, port.product) if name)
+
+
+def find_port(*, dev: str = "/dev", sysfs: str = "/sys") -> str:
+    """Returns the path of the only port that is likely a board's: its USB device names DGT, or has
+    the number `0403:6001`. It opens none.
+
+    `OSError` if there is none (`ENODEV`) or more than one (`ENOTUNIQ`). Its text lists the ports
+    that were found."""
+    found = ports(dev=dev, sysfs=sysfs)
+    likely = [port for port in found if is_likely(port)]
+    if len(likely) == 1:
+        return likely[0].path
+    if likely:
+        raise OSError(errno.ENOTUNIQ, "several boards: name the port of one of them: "
+                      + "; ".join(map(str, likely)))
+    if found:
+        raise OSError(errno.ENODEV, "no port is likely a board's. If one of these is, name it: "
+                      + "; ".join(map(str, found)))
+    raise OSError(errno.ENODEV, "no board: plug it in, or name its port (no serial port of USB or "
+                  "Bluetooth)")
+
+
+def chosen_port(program: str, port: str | None) -> str:
+    """Returns the port that a program was given, or else the only likely one, which it prints.
+    `SystemExit` if there isn't just one."""
+    if port is not None:
+        return port
+    try:
+        found = find_port()
+    except OSError as fault:
+        raise SystemExit(f"{program}: {fault.strerror}") from None
+    print(f"{program}: the only likely board is {found}", file=sys.stderr, flush=True)
+    return found
 
 
 def main(words: Sequence[str], *, dev: str = "/dev", sysfs: str = "/sys") -> None:

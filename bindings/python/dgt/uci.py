@@ -1,17 +1,20 @@
 """Plays the moves that you make on a board, as a UCI engine.
 
-A chess program starts it like any engine: `dgt-uci /dev/ttyUSB0`, or
-`python3 -m dgt uci /dev/ttyUSB0`. It opens the port when the chess program
-sends the first position, and closes it at the end. Instructions appear as
-`info string` and on standard error. The board's clock shows the other side's
-moves.
+Example:
+  $ xboard -fcp dgt-uci -fUCI -scp fairymax -mode TwoMachines
+
+A chess program starts it like any engine: `dgt-uci`, or `python3 -m dgt uci`.
+It opens the port when the chess program sends the first position, and closes it
+at the end. Without a PORT it looks for the only board every two seconds.
+Instructions appear as `info string` and on standard error. The board's clock
+shows the other side's moves.
 
 To promote, put the new piece on the last rank. A rook counts as a rook even
 upside down. For a queen you may also leave the pawn there for two seconds.
 
 Options that the chess program shows in its engine settings:
 
-    Port     the board's serial port
+    Port     the board's serial port; without it, the only board's
     Turned   whether White's pieces begin on the board's ranks 8 and 7: no, yes,
              or auto, which decides by the position on the board
     Settle   the milliseconds that a move has to rest
@@ -29,10 +32,12 @@ from collections.abc import Callable
 
 from . import _port, following
 from ._board_with_clock import BoardWithClock
+from ._manual import make_parser
 from ._turn import Turn
 from .errors import BadFen, IllegalMove
 from .following import BoardView
 from .rules import START_FEN, GameState
+from .serial_ports import find_port
 
 _PERIOD = 2.0
 """The seconds between two requests for all squares."""
@@ -42,6 +47,8 @@ _CONFIRMED = 0.25
 """The seconds for which a dump confirms a position when `stop` arrives."""
 _STOP_WAIT = 0.04
 """The most seconds that `stop` waits for a dump."""
+_LOOK = 2.0
+"""The seconds between two looks for the only board."""
 _LONGEST_LINE = 1 << 20
 _EMPTY = "<empty>"
 _TURNED = ("auto", "no", "yes")
@@ -134,6 +141,7 @@ class Engine:
                  say: Callable[[str], None] = _print) -> None:
         self.port, self._period, self._say = port, period, say
         self.line: BoardWithClock | None = None
+        self._name, self._look_at = "", float("-inf")
         self.is_over = False
         self._turn_setting, self._is_turned = "auto", False
         self._settle, self._shows_moves = _SETTLE[1] / 1000, True
@@ -217,7 +225,7 @@ class Engine:
     def _set_port(self, port: str) -> None:
         if port != self.port:
             self.close()
-            self.port, self._faulty = port, ""
+            self.port, self._faulty, self._look_at = port, "", float("-inf")
 
     def _set_position(self, words: list[str], now: float) -> None:
         self._begin()
@@ -253,9 +261,13 @@ class Engine:
         self._turn.ask(now)
         self._goes, self._is_held = True, not {"infinite", "ponder"}.isdisjoint(words)
         self._tell_times(words)
-        if self._other and self._shows_moves and self.line is not None:
-            self.line.shown_move.show(self._other)
+        self._show_move()
         self.work(now)
+
+    def _show_move(self) -> None:
+        """Shows the other side's move on the clock while a move is requested."""
+        if self._goes and self._other and self._shows_moves and self.line is not None:
+            self.line.shown_move.show(self._other)
 
     def _tell_times(self, words: list[str]) -> None:
         """Prints the other side's move, and the remaining times."""
@@ -315,20 +327,33 @@ class Engine:
     # ---- The board
 
     def open(self) -> None:
-        """Opens the port, or looks for it. Prints a fault once."""
+        """Opens the port, or that of the only board. Prints a fault once."""
         if self.line is not None:
             return
-        fault = "no port is set (start dgt-uci with it, or set the option Port)"
+        self._name, fault = self.port, ""
         try:
-            if self.port:
-                self.line, fault = BoardWithClock(self.port, self._period), ""
+            self._name = self.port or find_port()
+            self.line = BoardWithClock(self._name, self._period)
         except OSError as refused:
-            fault = f"{self.port}: {_why(refused.strerror or '')}"
+            why = refused.strerror or ""
+            fault = f"{self._name}: {_why(why)}" if self._name else \
+                    f"{why} (start dgt-uci with it, or set the option Port)"
         except ValueError:
             fault = f"not the name of a port: {self.port!r}"
         if fault and fault != self._faulty:
             self._inform(fault)
         self._faulty, self._away = fault, ""
+
+    def _look_for_board(self, now: float) -> float | None:
+        """Opens the port of the only board, if it is there now and no port is named. Returns the
+        time of the next look."""
+        if self.port or self.line is not None or self._turn is None:
+            return None
+        if now >= self._look_at:
+            self._look_at = now + _LOOK
+            self.open()
+            self._show_move()
+        return None if self.line is not None else self._look_at
 
     def close(self) -> None:
         if self.line is not None:
@@ -338,7 +363,7 @@ class Engine:
     def see(self, view: BoardView, now: float) -> None:
         away = view.away or ""
         if away != self._away:
-            self._inform(f"{self.port}: {_why(away) if away else 'the board is back'}")
+            self._inform(f"{self._name}: {_why(away) if away else 'the board is back'}")
             self._away = away
         self._look(view, now)
 
@@ -366,9 +391,10 @@ class Engine:
 
     def work(self, now: float) -> float | None:
         """Does everything due, and returns the time of the next call."""
+        look = self._look_for_board(now)
         due = self._await_move(now) if self._goes else None
         clock = self.line.tend_clock(now) if self.line is not None else None
-        return min((each for each in (due, clock) if each is not None), default=None)
+        return min((each for each in (look, due, clock) if each is not None), default=None)
 
     def _await_move(self, now: float) -> float | None:
         turn = self._turn
@@ -437,11 +463,10 @@ def period(text: str) -> float:
 
 def main(arguments: list[str] | None = None) -> None:
     """Runs the program `dgt-uci` with these arguments, or those of the process."""
-    parser = argparse.ArgumentParser(
-        prog="dgt-uci", description=__doc__, allow_abbrev=False,
-        formatter_class=argparse.RawDescriptionHelpFormatter)
+    parser = make_parser("dgt-uci", __doc__)
     parser.add_argument("port", nargs="?", default="",
-                        help="the board's serial port, such as /dev/ttyUSB0")
+                        help="the board's serial port, such as /dev/ttyUSB0 (that of the only "
+                        "board)")
     parser.add_argument("--period", type=period, default=_PERIOD, metavar="SECONDS",
                         help="the time between two requests for all squares (%(default)s)")
     args = parser.parse_args(arguments)

@@ -39,7 +39,7 @@ class Client:
     def ignore(self, *words):
         pass
 
-    username_pw_set = reconnect_delay_set = wait_for_publish = disconnect = ignore
+    username_pw_set = reconnect_delay_set = wait_for_publish = disconnect = loop_forever = ignore
 
     def tls_set(self, file):
         note("words", "tls", file)
