@@ -356,7 +356,7 @@ class Boards:
             self.tell_change(board)
 
     def name(self, players: corrected_games.Players) -> None:
-        """Sets the players of the file of names."""
+        """Sets the players of the files of names and of pairings."""
         with self.lock:
             self.names = players
             for board in self.known.values():
