@@ -95,7 +95,7 @@ class Outlets:
         found = dict.fromkeys(self.names, (0, []))
         for tags, words in pgn_games.split(text):
             name = tags["Board"]
-            if found[name][0] and name not in self.broken or "FEN" in tags:
+            if name not in self.broken and (found[name][0] or "FEN" in tags):
                 self.broken.add(name)
                 self.refuse(f"the game on board {name} is broken off")
             moves = [word for word in words if not re.match(r"\d|\{|\*", word)]

@@ -184,7 +184,7 @@ class Board:
     less: str | None = None  # the side of the clock that had less time than before
     rivals: dict[str, float] = field(default_factory=dict)  # those that follow it now, and when
     doubled_at: float = -LOST  # when its journal was heard beside one of these
-    noted_at: float = -LOST  # when they were told so
+    noted_at: float = -LOST  # when both publishers were sent a note of it
     told: dict[str, Any] | None = None  # the last event for pages
     has_ended: bool = False  # the journal's program, or it is silent
     known_at: float = 0.0
