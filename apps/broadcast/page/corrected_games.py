@@ -16,7 +16,8 @@ import topics
 from collector import Table, report, view_of
 from corrections import DESK, Entry, Refused
 
-Players = dict[str, tuple[str, str]]
+Players = dict[str, dict[str, str]]  # tags of each board
+NOBODY = dict.fromkeys(corrections.PLAYER_TAGS, "")
 
 
 @dataclass
@@ -37,7 +38,9 @@ class CorrectedGames(collector.Collector):
     def __init__(self, shelf: collector.Shelf, tags: dict[str, str], side: str,
                  tell: collector.Tell, name: Callable[[Players], None], state: collector.State,
                  is_last: bool) -> None:
-        self.names: Players = {}
+        self.names: Players = {}  # of both files
+        self.of_file: Players = {}
+        self.pairings: Players = {}
         self.name = name
         self.sides: dict[str, str] = {}  # of clocks with another side than the usual one
         self.targets: dict[str, str] = {}  # the address that gets the games of a round
@@ -170,6 +173,8 @@ class CorrectedGames(collector.Collector):
         """Handles corrections that aren't about a single game."""
         if "names" in entry:
             self.take_names(**entry["names"])
+        if "pairings" in entry:
+            self.take_pairings(**entry["pairings"])
         for name, side in entry.get("clock", {}).items():
             self.sides[name] = side
             if name in self.tables:
@@ -184,28 +189,44 @@ class CorrectedGames(collector.Collector):
         self.tags |= tags
         if push:
             self.targets[self.tags.get("Round", "?")] = push
-        self.names = {name: (white, black) for name, (white, black) in players.items()}
+        self.of_file = {name: dict(zip(("White", "Black"), both)) for name, both in players.items()}
+        self.name_all(tags)
+
+    def take_pairings(self, round: str, asked: str | None, tags: dict[str, str],
+                      boards: Players) -> None:
+        """Sets the players of a round from the file of pairings, in the same way."""
+        tags = {**tags, "Round": round} if round else tags
+        self.tags |= tags
+        self.pairings = boards
+        self.name_all(tags)
+
+    def name_all(self, tags: dict[str, str]) -> None:
+        """Sets tags of all boards' games, and the players of each board whose players are new: what
+        was typed at the desk stays until then."""
+        before, self.names = self.names, {**self.of_file, **self.pairings}
         self.name(self.names)
         self.tell("", None, False)
         for name, board in self.shown.items():
             board.named = self.names.get(name)
         for name in list(self.tables):
-            self.do(name, functools.partial(self.name_game, name, tags))
+            new = {} if self.names.get(name) == before.get(name) else {
+                **NOBODY, **self.names.get(name, {})}
+            self.do(name, functools.partial(self.name_game, tags, new))
 
-    def name_game(self, name: str, tags: dict[str, str], table: Table) -> None:
-        game, players = table.games.game, self.names.get(name)
+    def name_game(self, tags: dict[str, str], players: dict[str, str], table: Table) -> None:
+        game = table.games.game
         is_of_round = game is not None and (not game.moves or all(
             game.tags.get(each) == tags[each] for each in ("Event", "Round") if each in tags))
-        if players is not None:
-            table.players = players
-            tags = {**tags, "White": players[0], "Black": players[1]}
-        table.games.set_tags(tags, is_of_round)
+        if "White" in players:
+            table.players = players["White"], players["Black"]
+        table.games.set_tags({**tags, **players}, is_of_round)
 
     def add(self, name: str) -> Table:
         table = super().add(name)
         self.set_side(table)
-        if name in self.names:
-            table.name_players(self.names[name])
+        if players := self.names.get(name):
+            table.name_players((players["White"], players["Black"]))
+            table.games.set_tags(players, False)
         return table
 
     # ---- Clocks, and boards that are swapped

@@ -21,6 +21,9 @@ RESULTS = ("1-0", "0-1", "1/2-1/2", "*")
 REASONS = ("normal", "time forfeit", "rules infraction", "adjudication", "abandoned")
 SIDES = ("left", "right", "learn")
 FILE_TAGS = ("Event", "Site", "Date", "Round")
+# What a file of pairings says of the players of a game.
+PLAYER_TAGS = (*(colour + kind for colour in ("White", "Black")
+                 for kind in ("FideId", "Elo", "Title", "Team")), "TimeControl")
 MOST_MOVES = 1000  # half-moves of a corrected game
 LOOK = 1.0  # seconds between two looks at the time of a file
 MOST_FILE = 1 << 20  # bytes
@@ -219,7 +222,8 @@ class Watch:
 
     def __init__(self, path: str) -> None:
         """Refused if it can't be read, or is wrong."""
-        self.path, self.fault, self.names = path, "", Names()
+        self.path, self.fault = path, ""
+        self.names: Any = Names()
         self.stamp = self.seen = self.look()
         self.read()
         if self.fault:
@@ -246,7 +250,7 @@ class Watch:
             self.fault = str(fault)
         return not self.fault
 
-    def run(self, hear: Callable[[Names], None], report: Callable[[str], None]) -> None:
+    def run(self, hear: Callable[[Any], None], report: Callable[[str], None]) -> None:
         """Reads the file again if it has changed between two looks, and is stable."""
         stop = threading.Event()
         while not stop.wait(LOOK):

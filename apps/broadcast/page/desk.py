@@ -22,7 +22,9 @@ import dgt
 import collector
 import corrected_games
 import corrections
+import pairings
 import topics
+import views
 import web
 from corrections import RESULTS, Refused
 from corrected_games import Wanted
@@ -35,7 +37,7 @@ MOST_WRONG, EACH = 20, 12.0
 SHOWN = 20  # corrections
 FIELDS = {  # of each form, besides `board` and `game`
     "result": ("result", "why"), "moves": ("before", "moves"), "tags": ("White", "Black", "Round"),
-    "clock": ("side",), "swap": ("other",)}
+    "clock": ("side",), "swap": ("other",), "round": ("round",)}
 LOCAL = ("localhost", "127.0.0.1", "[::1]")
 HEADS = {"Cache-Control": "no-store", "X-Content-Type-Options": "nosniff",
          "X-Frame-Options": "DENY", "Referrer-Policy": "same-origin"}
@@ -74,6 +76,7 @@ class Source:
     password: str | None
     status: Callable[[], list[tuple[str, bool]]]
     metrics: Callable[[], str]
+    rounds: pairings.Rounds | None = None
     tries: Tries = field(default_factory=Tries)
 
     def __post_init__(self) -> None:
@@ -194,7 +197,7 @@ class Desk(web.Visit):
             said = f'<p role="status" class="good">Kept: {quoted(query["kept"][:20])}</p>'
         try:
             title, live, forms = (self.board(name, query.get("game", ""), form or {}) if name
-                                  else ("Desk", self.overview(), ""))
+                                  else ("Desk", self.overview(), self.form_of_rounds()))
         except Refused as missing:
             fault, title, forms = str(missing), "Desk", ""
             live = f'<p class="bad">{quoted(fault)}</p>{self.overview()}'
@@ -220,7 +223,8 @@ class Desk(web.Visit):
         name, game, players = event["board"], event["game"], event["players"]
         link = (f'<a href="/desk?{urllib.parse.urlencode({"board": name})}" '
                 f'aria-label="Board {quoted(name)}">{quoted(name)}</a>')
-        white, black = (players["white"], players["black"]) if players else ("?", "?")
+        white, black = (views.player(players, each) if players else "?"
+                        for each in ("white", "black"))
         state, advice = event["state"], advice_of(game)
         if advice and state in ("following", "unknown"):
             state = f"lost: {advice}"
@@ -289,6 +293,13 @@ class Desk(web.Visit):
                 for each in ("White", "Black", "Round"))),
         ]
 
+    def form_of_rounds(self) -> str:
+        if (rounds := self.source.rounds) is None:
+            return ""
+        return self.form({"board": "", "game": ""}, "round", "next round", (
+            f'<label>Round <input name="round" value="{quoted(rounds.following)}"></label> '
+            "Games that begin from now on belong to it."))
+
     def forms_of_board(self, name: str, number: int) -> list[str]:
         place = {"board": name, "game": str(number)}
         others = sorted((each["board"] for each in self.source.boards.now()["boards"]
@@ -305,6 +316,8 @@ class Desk(web.Visit):
     def correct(self, form: Form) -> None:
         """Stores the correction of a form. Refused if it isn't valid."""
         games, kind, board = self.source.games, form["kind"], form["board"]
+        if kind == "round" and self.source.rounds:
+            return self.source.rounds.begin(form["round"].strip())
         number = number_of(form["game"])
         entry: dict[str, Any] = {"game": number}
         if kind == "result":
@@ -447,4 +460,6 @@ def described(entry: dict[str, Any]) -> str:
                          for name, side in entry["clock"].items())
     if "swap" in entry:
         return "boards {} and {} swapped".format(*entry["swap"])
+    if "pairings" in entry:
+        return f"the file of pairings, round {entry['pairings']['round'] or '?'}"
     return f"the file of names, round {entry['names']['tags'].get('Round', '?')}"

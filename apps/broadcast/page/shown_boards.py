@@ -42,6 +42,7 @@ class Boards:
         self.messages = self.refused = 0
         self.wrong: set[tuple[str, str]] = set()  # topics with a reported invalid message
         self.full: set[str] = set()  # publishers with a reported refused board
+        self.notes: list[str] = []  # for the publishers of the board that was heard last
 
     def head(self) -> dict[str, Any]:
         tags = self.games.tags if self.games else {}
@@ -162,6 +163,9 @@ class Boards:
                 report(f"{board.name!r}: two programs publish this board (the journals {journal} "
                        f"and {others}): only what the first one says is shown and kept. Give one "
                        "of the boards another name (see --names of dgt-broadcast)")
+            if now > board.noted_at + topics.LOST:
+                board.noted_at = now
+                self.notes.append(f"rivals {' '.join([journal, *board.rivals])}")
             board.doubled_at = now
 
     def doubled(self) -> list[str]:
@@ -356,7 +360,7 @@ class Boards:
             self.tell_change(board)
 
     def name(self, players: corrected_games.Players) -> None:
-        """Sets the players of the file of names."""
+        """Sets the players of the files of names and of pairings."""
         with self.lock:
             self.names = players
             for board in self.known.values():

@@ -8,6 +8,8 @@ from typing import Any
 
 import dgt
 
+from views import named
+
 # The topics of a board, below boards/NAME. A server gets retained messages in this order, so that
 # the state and the confirmation are known before the position.
 LOG, JOURNAL, STATE, CONFIRMED, POSITION, CLOCK, PLAYERS, COUNTERS = TOPICS = (
@@ -176,12 +178,13 @@ class Board:
     is_turned: bool = False  # White's pieces began on the ranks 8 and 7
     texts: dict[str, str] = field(default_factory=dict)  # the same as text
     journal: str = ""  # the journal with the board, if there is one
-    named: tuple[str, str] | None = None  # its players from an arbiter's file
+    named: dict[str, str] | None = None  # tags of its players, from an arbiter's file
     clock_number: int = 0  # the number of the entry with this clock
     others: dict[str, int] = field(default_factory=dict)  # other journals, and their last numbers
     less: str | None = None  # the side of the clock that had less time than before
     rivals: dict[str, float] = field(default_factory=dict)  # those that follow it now, and when
     doubled_at: float = -LOST  # when its journal was heard beside one of these
+    noted_at: float = -LOST  # when both publishers were sent a note of it
     told: dict[str, Any] | None = None  # the last event for pages
     has_ended: bool = False  # the journal's program, or it is silent
     known_at: float = 0.0
@@ -242,7 +245,9 @@ class Board:
 
     @property
     def players(self) -> tuple[str, str] | None:
-        players: tuple[str, str] | None = self.named or self.said.get(PLAYERS)
+        if self.named:
+            return self.named["White"], self.named["Black"]
+        players: tuple[str, str] | None = self.said.get(PLAYERS)
         return players
 
     def hear(self, topic: str, said: Any, now: float, text: str = "") -> None:
@@ -314,13 +319,14 @@ class Board:
         """The event for a page. `at` of the clock is the `moment` at which it was read."""
         count, position = self.sure or self.said[POSITION]
         placement, clock, game = str(position), self.clock, dict(self.game or {})
-        players = game.pop("players", None) or self.players
+        players = game.pop("players", None) or self.players and named(
+            self.named or dict(zip(("White", "Black"), self.players)))
         return {
             "board": self.name,
             "count": count,
             "placement": placement[::-1] if self.is_turned else placement,
             "state": "following" if self.state == "doubt" else self.state,
-            "players": players and {"white": players[0], "black": players[1]},
+            "players": players,
             "clock": None if clock is None else {"none": True} if clock.is_none else {
                 "left": clock.left, "right": clock.right, "running": clock.running,
                 "turn": clock.turn, "low": clock.low, "fallen": clock.fallen, "runs": self.runs,

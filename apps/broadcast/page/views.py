@@ -7,6 +7,7 @@ import dgt
 from dgt.clock_side import in_seconds
 
 SHOWN_MOVES = 12
+COLOURS = ("White", "Black")
 Summary = dict[str, Any]
 
 
@@ -28,10 +29,23 @@ def summary(games: dgt.Games) -> Summary | None:
     }
 
 
-def players(game: dgt.PgnGame) -> tuple[str, str] | None:
-    """White and Black of a game, once it has moves and their names are known."""
-    white, black = (game.tags.get(each, "?") for each in ("White", "Black"))
-    return (white, black) if game.moves and white != "?" else None
+def players(game: dgt.PgnGame) -> dict[str, str] | None:
+    """The players of a game, once it has moves and their names are known."""
+    is_known = game.moves and game.tags.get("White", "?") != "?"
+    return named(game.tags) if is_known else None
+
+
+def named(tags: dict[str, str]) -> dict[str, str]:
+    """The players of a game's tags: their names, and their titles and ratings if it has some."""
+    shown = {colour.lower(): tags.get(colour, "?") for colour in COLOURS}
+    return shown | {f"{colour}_{kind}".lower(): tags[colour + kind] for colour in COLOURS
+                    for kind in ("Title", "Elo") if tags.get(colour + kind)}
+
+
+def player(players: dict[str, str], colour: str) -> str:
+    """A player in words, such as `GM Carlsen 2839`."""
+    parts = (players.get(f"{colour}{end}") for end in ("_title", "", "_elo"))
+    return " ".join(filter(None, parts))
 
 
 def written(game: dgt.PgnGame) -> bytes:

@@ -179,7 +179,7 @@ class Connection(asyncio.Protocol):
             self.drop()
 
     def answer(self, request: bytes) -> None:
-        self.server.waiting.pop(self, None)
+        self.server.end_wait(self)
         if request.startswith(b"POST "):
             self.is_full, self.due = True, math.inf  # stop reading
             self.working = self.server.loop.create_task(self.work(request))
@@ -274,7 +274,9 @@ class Server:
         self.socket, self.visit, self.events, self.report = listening, visit, events, report
         self.address, self.port = listening.getsockname()[:2]
         self.all: set[Connection] = set()
-        self.waiting: dict[Connection, None] = {}  # the oldest first
+        # The oldest first, of all addresses, and of each one.
+        self.waiting: dict[Connection, None] = {}
+        self.waiting_of: dict[str, dict[Connection, None]] = collections.defaultdict(dict)
         self.pages: dict[Connection, None] = {}
         self.of_one: collections.Counter[str] = collections.Counter()  # pages of an address
         self.some: dict[int, tuple[bytes, int]] = {}  # events from a place on, for all pages
@@ -328,13 +330,19 @@ class Server:
             self.report(f"{context['message']}\n{''.join(lines)}".rstrip())
 
     def let_wait(self, one: Connection) -> None:
-        self.waiting.pop(one, None)
-        self.waiting[one] = None
-        same = [each for each in self.waiting if each.address == one.address]
+        self.end_wait(one)
+        same = self.waiting_of[one.address]
+        same[one] = self.waiting[one] = None
         if len(same) > MOST_WAITING_OF_ONE:
-            same[0].drop()
+            next(iter(same)).drop()
         elif len(self.waiting) > self.most_waiting:
             next(iter(self.waiting)).drop()
+
+    def end_wait(self, one: Connection) -> None:
+        if one in self.waiting:
+            del self.waiting[one], self.waiting_of[one.address][one]
+            if not self.waiting_of[one.address]:
+                del self.waiting_of[one.address]
 
     def let_take(self, one: Connection) -> None:
         """Lets one wait that hasn't taken its answer yet. If all such answers are too long, the
@@ -360,7 +368,7 @@ class Server:
 
     def forget(self, one: Connection) -> None:
         self.all.discard(one)
-        self.waiting.pop(one, None)
+        self.end_wait(one)
         if one in self.pages:
             del self.pages[one]
             self.of_one -= collections.Counter([one.address])

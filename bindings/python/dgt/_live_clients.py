@@ -16,8 +16,9 @@ change:
 
 `serialnr` is the board's number, or the name of its port before the number is known; `subscribe`
 also takes the path of the port, which `source` contains. A feed that names a board by its number
-follows it to another port. `board` is null until the board has reported its squares, and while
-another board is on its port, or one that reports no number.
+follows it to another port; so does one that names the port, once the number is known. A feed that
+names the path stays there. `board` is null until the board has reported its squares and its number,
+or no number for 5 seconds, and while another board is on its port, or one that reports no number.
 
 Each feed has its own game, which begins without moves. `setup` begins a new list of moves:
 
@@ -81,10 +82,19 @@ class Feed:
     def __init__(self, client: Client, number: int | str, serial: str, board: Board) -> None:
         self.number, self.serial, self.board = number, serial, board
         self.game: Game = board.new_game()
-        self._client = client
-        # Boards that share a number stay on their ports.
-        self._is_by_number = board.view.serial == serial and len(client.boards_of(serial)) < 2
-        self._last: Json = {}
+        self._client, self._last = client, Json()
+        self._stays, self._is_by_number = serial == board.source, False
+        self._note_number()
+
+    def _note_number(self) -> None:
+        """Notes the number of the board, once it is known. Boards that share one stay on their
+        ports."""
+        number = self.board.view.serial
+        if number is None or self._stays or self._is_by_number:
+            return
+        self._is_by_number = len(self._client.boards_of(number)) < 2
+        self._stays = not self._is_by_number
+        self.serial = number if self._is_by_number else self.serial
 
     def is_of(self, board: Board) -> bool:
         """Whether this is still the board with its number: another one may be on its port."""
@@ -103,6 +113,7 @@ class Feed:
 
     def look(self) -> None:
         """Sends the state of the board if it has changed."""
+        self._note_number()
         if self._is_by_number and (self.board.view.away or not self.is_of(self.board)):
             self._find()
         known = self.board.event(self.game) if self.is_of(self.board) else {

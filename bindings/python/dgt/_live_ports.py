@@ -21,7 +21,7 @@ _PERIOD = 2.0
 _LOOK = 2.0
 """The seconds between two looks for ports."""
 _NUMBER_WAIT = 5.0
-"""The seconds after which a board that comes back and reports no number counts as one without a
+"""The seconds after which a board that is there and reports no number counts as one without a
 number, and between two more requests for it."""
 _AT_ONCE = 64
 """The most changes of a board that are handled before other boards have their turn."""
@@ -38,7 +38,7 @@ class PortBoard(Board):
         self._descriptor: int | None = None
         self._asked: Position | None = None
         self._pending: tuple[str, bool] | None = None
-        self._is_late, self._back_at, self._asked_at = False, float("-inf"), float("-inf")
+        self._is_late, self._back_at, self._asked_at = False, time.monotonic(), float("-inf")
         self.turn()
 
     def turn(self) -> None:
@@ -59,14 +59,14 @@ class PortBoard(Board):
         super().turn()
 
     def _identified(self, view: BoardView, now: float) -> BoardView:
-        """Returns the view if it is of the board whose number it has. A board that has come back
-        may be another one: until it has reported its number, returns the last view, in doubt, and
-        after a while the view without a number."""
+        """Returns the view if it is of the board whose number it has. Any board may have come to
+        the port: until it has reported its number, returns the last view, in doubt, and after a
+        while the view without a number."""
         if view.away is not None:
             self._back_at = now
             return replace(self.view, in_doubt=True, away=view.away, confirmed=False)
         number = self._line.follower.serial
-        if view.serial is None or (number is not None and view.serial == number.decode("latin-1")):
+        if number is not None and view.serial == number.decode("latin-1"):
             return view
         if now >= self._back_at + _NUMBER_WAIT:
             return replace(view, serial=None)

@@ -170,10 +170,10 @@ class Games(Uncopied):
 
     def set_tags(self, tags: dict[str, str], is_for_this: bool) -> None:
         """Sets tags of the games that begin from now on, and with `is_for_this` also of the present
-        game."""
-        self._tags = {**self._tags, **tags}
+        game. An empty text removes a tag."""
+        self._tags = _with(self._tags, tags)
         if is_for_this and self.game is not None:
-            self.game.tags.update(tags)
+            self.game.tags = _with(self.game.tags, tags)
             self._save()
 
     @property
@@ -517,6 +517,11 @@ class Games(Uncopied):
             if self._fault:
                 self._warn(f"{self._file.name} is written again")
             self._fault = ""
+
+
+def _with(old: dict[str, str], new: dict[str, str]) -> dict[str, str]:
+    """Tags with new ones, of which an empty text removes one."""
+    return {name: text for name, text in {**old, **new}.items() if text or name not in new}
 
 
 def _is_left(side: str) -> bool:
