@@ -1,25 +1,18 @@
-//! Times the proved library, the same work in plain Rust (`plain`), and the plain Rust that is
-//! generated from the proved sources (`generated`). Lines go to a writer that only counts bytes, so
-//! no system call is timed. With the argument `monitor` or `picture` it is that program in plain
-//! Rust.
+//! Times the proved library, and the plain Rust that is generated from the proved sources
+//! (`generated`).
 use std::cell::RefCell;
 use std::hint::black_box;
-use std::io;
 use std::time::{Duration, Instant};
 
 mod generated {
     include!(env!("DGT_GENERATED"));
 }
-mod plain;
-mod program;
-mod work;
 
 // A slice is passed as a pointer and a length.
 unsafe extern "C" {
     fn dgt_bench_decode(bytes: *const u8, len: usize, most: usize) -> u64;
     fn dgt_bench_feed_all(bytes: *const u8, len: usize, most: usize) -> u64;
     fn dgt_bench_hear(bytes: *const u8, len: usize) -> u64;
-    fn dgt_bench_monitor(bytes: *const u8, len: usize) -> u64;
     fn dgt_bench_take(bytes: *const u8, len: usize, poll: bool) -> u64;
     fn dgt_bench_poll(squares: *const u8, len: usize) -> u64;
     fn dgt_bench_lines(fen: *const u8, len: usize, length: u8) -> u64;
@@ -40,6 +33,7 @@ const POSITIONS: [(&str, u64); 5] = [
     ("r3k2r/Pppp1ppp/1b3nbN/nP6/BBP1P3/q4N2/Pp1P2PP/R2Q1RK1 w kq - 0 1", 15_833_292),
     ("rnbq1k1r/pp1Pbppp/2p5/8/2B5/8/PPP1NnPP/RNBQK2R w KQ - 1 8", 89_941_194),
 ];
+const GENERATED: &str = "generated";
 const BACK: [u8; 8] = [8, 9, 10, 12, 11, 10, 9, 8];
 
 fn message(code: u8, body: &[u8]) -> Vec<u8> {
@@ -67,25 +61,20 @@ fn least(runs: u32, work: impl Fn() -> u64) -> (f64, u64) {
     best
 }
 
-/// Prints a row, without the generated code if there is none for this work.
+/// Prints a row: the proved work, and the same work done otherwise.
 fn compare(
     name: &str,
     parts: usize,
     proved: impl Fn() -> u64,
-    plain: impl Fn() -> u64,
-    made: Option<&dyn Fn() -> u64>,
+    other_name: &str,
+    other: impl Fn() -> u64,
 ) {
     let runs = if parts < LONG { 100 } else { 1 };
-    let ((proved, answer), (plain, same)) = (least(runs, proved), least(runs, plain));
+    let ((proved, answer), (other, same)) = (least(runs, proved), least(runs, other));
     assert_eq!(answer, same, "{name}: the answers differ");
     let each = |time: f64| time * 1e3 / parts as f64;
-    print!("{name}: {:.1} ns each, plain Rust {:.1} ns, ", each(proved), each(plain));
-    println!("{:.2} times", proved / plain);
-    if let Some(made) = made {
-        let (made, same) = least(runs, made);
-        assert_eq!(answer, same, "{name}: the generated crate's answer differs");
-        println!("  generated {:.1} ns, {:.2} times", each(made), proved / made);
-    }
+    print!("{name}: {:.1} ns each, {other_name} {:.1} ns, ", each(proved), each(other));
+    println!("{:.2} times", proved / other);
 }
 
 fn compare_decode(name: &str, parts: usize, bytes: &[u8], most: usize) {
@@ -93,18 +82,8 @@ fn compare_decode(name: &str, parts: usize, bytes: &[u8], most: usize) {
         name,
         parts,
         || unsafe { dgt_bench_decode(black_box(bytes.as_ptr()), bytes.len(), most) },
-        || work::decode(black_box(bytes), most),
-        Some(&|| generated::decode(black_box(bytes), most)),
-    );
-}
-
-fn compare_monitor(name: &str, parts: usize, bytes: &[u8]) {
-    compare(
-        name,
-        parts,
-        || unsafe { dgt_bench_monitor(black_box(bytes.as_ptr()), bytes.len()) },
-        || work::monitor(black_box(bytes)),
-        None,
+        GENERATED,
+        || generated::decode(black_box(bytes), most),
     );
 }
 
@@ -113,8 +92,8 @@ fn compare_feed_all(name: &str, parts: usize, bytes: &[u8]) {
         name,
         parts,
         || unsafe { dgt_bench_feed_all(black_box(bytes.as_ptr()), bytes.len(), 64) },
-        || work::decode(black_box(bytes), 64),
-        Some(&|| generated::feed_all(black_box(bytes), 64)),
+        GENERATED,
+        || generated::feed_all(black_box(bytes), 64),
     );
 }
 
@@ -123,8 +102,8 @@ fn compare_hear(name: &str, parts: usize, bytes: &[u8]) {
         name,
         parts,
         || unsafe { dgt_bench_hear(black_box(bytes.as_ptr()), bytes.len()) },
-        || work::hear(black_box(bytes)),
-        Some(&|| generated::hear(black_box(bytes))),
+        GENERATED,
+        || generated::hear(black_box(bytes)),
     );
 }
 
@@ -133,8 +112,8 @@ fn compare_take(name: &str, parts: usize, bytes: &[u8], poll: bool) {
         name,
         parts,
         || unsafe { dgt_bench_take(black_box(bytes.as_ptr()), bytes.len(), poll) },
-        || work::take(black_box(bytes), poll),
-        Some(&|| generated::take(black_box(bytes), poll)),
+        GENERATED,
+        || generated::take(black_box(bytes), poll),
     );
 }
 
@@ -148,7 +127,7 @@ fn garbage(len: usize) -> Vec<u8> {
     (0..len).map(step).collect()
 }
 
-/// Decoders, hosts and monitors.
+/// Decoders and hosts.
 fn compare_messages() {
     let fields: Vec<u8> =
         (0..LINES).flat_map(|n| message(0x0e, &[(n % 64) as u8, (n % 16) as u8])).collect();
@@ -168,11 +147,23 @@ fn compare_messages() {
     let game = [&dumps[..67], &fields].concat();
     compare_hear("Host::hear, fields after a dump", LINES as usize, &game);
     compare_hear("Host::hear, dumps", DUMPS, &dumps);
-    compare_monitor("monitor, fields", LINES as usize, &fields);
-    compare_monitor("monitor, dumps", DUMPS, &dumps);
-    compare_monitor("monitor, longest messages", 20, &longest);
-    compare_monitor("monitor, random bytes", noise.len(), &noise);
     compare_copies(&longest);
+}
+
+/// Copies all bytes at once, and reads the last byte of each part.
+fn copy_all(bytes: &[u8], part: usize, copy: &mut [u8]) -> u64 {
+    copy.copy_from_slice(bytes);
+    black_box(&*copy).chunks(part).map(|part| u64::from(part[part.len() - 1])).sum()
+}
+
+/// Copies each part of the bytes into one buffer, and reads its last byte.
+fn copies(bytes: &[u8], part: usize) -> u64 {
+    let (mut held, mut sum) = ([0; LONGEST], 0);
+    for piece in bytes.chunks(part) {
+        held[..piece.len()].copy_from_slice(piece);
+        sum += u64::from(black_box(&held)[piece.len() - 1]);
+    }
+    sum
 }
 
 /// Longest messages in whole chunks, compared with a copy of as many bytes.
@@ -180,18 +171,18 @@ fn compare_copies(longest: &[u8]) {
     let many = longest.repeat(50);
     let copy = RefCell::new(vec![1; many.len()]);
     compare(
-        "Decoder::feed, longest messages in whole chunks, beside one memcpy of them all",
+        "Decoder::feed, longest messages in whole chunks",
         1000,
         || unsafe { dgt_bench_decode(black_box(many.as_ptr()), many.len(), LONGEST) },
-        || work::copy_all(black_box(&many), LONGEST, &mut copy.borrow_mut()),
-        Some(&|| generated::decode(black_box(&many), LONGEST)),
+        "one memcpy of them all",
+        || copy_all(black_box(&many), LONGEST, &mut copy.borrow_mut()),
     );
     compare(
-        "Decoder::feed, longest messages in whole chunks, beside memcpy of each to one place",
+        "Decoder::feed, longest messages in whole chunks",
         20,
         || unsafe { dgt_bench_decode(black_box(longest.as_ptr()), longest.len(), LONGEST) },
-        || work::copies(black_box(longest), LONGEST),
-        Some(&|| generated::decode(black_box(longest), LONGEST)),
+        "memcpy of each to one place",
+        || copies(black_box(longest), LONGEST),
     );
 }
 
@@ -207,8 +198,8 @@ fn compare_boards() {
         "Board::change and poll, a field",
         2 * squares.len(),
         || unsafe { dgt_bench_poll(black_box(squares.as_ptr()), squares.len()) },
-        || work::poll(black_box(&squares)),
-        Some(&|| generated::poll(black_box(&squares))),
+        GENERATED,
+        || generated::poll(black_box(&squares)),
     );
 }
 
@@ -224,18 +215,14 @@ fn compare_lines() {
             &format!("State::goals and play, {count} lines of five moves from {fen}"),
             count as usize,
             proved,
-            || work::lines(black_box(fen.as_bytes()), 5),
-            Some(&|| generated::lines(black_box(fen.as_bytes()), 5)),
+            GENERATED,
+            || generated::lines(black_box(fen.as_bytes()), 5),
         );
     }
 }
 
-fn main() -> io::Result<()> {
-    if let Some(name) = std::env::args().nth(1) {
-        return program::main(&name);
-    }
+fn main() {
     compare_messages();
     compare_boards();
     compare_lines();
-    Ok(())
 }
