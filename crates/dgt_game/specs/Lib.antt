@@ -6,6 +6,7 @@ pub mod Recogniser
 pub mod Laws
 pub mod Results
 pub mod Waiting
+pub mod Staying
 pub mod Timing
 pub mod Planning
 pub mod Reading

@@ -24,7 +24,7 @@ ghost use Rattle.dgt_game.specs.Waiting.{CallsFollowOn, IsQuiet, RightIfAway, Ru
 use crate::event::GAP;
 use crate::times::{
     AT_ONCE, CASTLE, FINAL, FIRST, GLANCE, HANDS, JUMP, KEPT, KINGS, LONG, NEAR, NEW, NEW_STILL,
-    PRESS, REPLACE, ROOTS, SEEN, SETTLE, SHADOW,
+    PRESS, REPLACE, ROOTS, SEEN, SETTLE, SHADOW, STAYS,
 };
 
 /// What is reported is legal and was shown, over whole runs.
@@ -82,7 +82,8 @@ pub fn what_results_say()
     ensures once { OneResult }
     ensures lost { LostInTurn }
     ensures away { RightIfAway }
-    ensures stay { (events : List Event) → ((count : ℕ) → ¬ (Contains events (Event.Back count)))
+    ensures stay { (events : List Event) → ((count : ℕ) (stays : Bool)
+        → ¬ (Contains events (Event.Back count stays)))
         → ((state : State) (is_turned : Bool) → ¬ (Contains events (Event.Begun state is_turned)))
         → Stay events }
     ensures not_found { (events : List Event) → ¬ (Contains events Event.Found)
@@ -180,6 +181,7 @@ pub fn limits()
     ensures glance { GLANCE ≡ 320 }
     ensures kings { KINGS ≡ 1000 }
     ensures is_final { FINAL ≡ 10000 }
+    ensures stays { STAYS ≡ 30000 }
     ensures shadow { SHADOW ≡ 3 }
     ensures near { NEAR ≡ 4 }
     ensures long { LONG ≡ 8 }
