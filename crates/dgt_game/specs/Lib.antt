@@ -13,6 +13,7 @@ pub mod Reading
 pub mod Standing
 pub mod Sure
 pub mod Runs
+pub mod Filed
 pub mod Settling
 pub mod Finding
 -- Only for bodies.

@@ -5,6 +5,7 @@ ghost use Rattle.dgt_values.specs.declared.pieces.Piece.{Piece};
 ghost use Rattle.dgt_chess.specs.declared.state.State.{State};
 ghost use Rattle.dgt_game.specs.declared.event.Event.{Event};
 ghost use Rattle.dgt_game.specs.declared.recogniser.Recogniser.{Recogniser};
+ghost use Rattle.dgt_game.specs.Filed.{AllIsFile, AskedStays, AsksAreLegal, CorrectionsKeepNothing, EndedIsKept, NoLineIsDeleted, OneBegins, WholeIsKept};
 ghost use Rattle.dgt_game.specs.Finding.{IsFound, MovedIsSearched, SearchIsDue, WhatFollowsIsFound};
 ghost use Rattle.dgt_game.specs.Laws.{BackIsCounted, JoinedIsOne, LegalIsJoined, NoneAndOne, OneIsShown, OneLine, OthersAreHeld, SeveralAreShown, ShownIsHeld, StartIsShown, UnseenIsOnly};
 ghost use Rattle.dgt_game.specs.Planning.{ElseMayBegin, InTurnIsNotRefused, IsLostOr, IsPlanned, LiftedIsGone, LostIsReported, NothingFits, OneFits, PossibleIsHopeful, WhyHopeless};
@@ -72,6 +73,18 @@ pub fn what_was_sure()
     ensures last { LastWasShown }
     ensures none { NothingWasSure }
     ensures ends { ShownMayEnd }
+{}
+
+/// No played line is deleted, and corrections keep nothing.
+pub fn no_line_is_deleted()
+    ensures stays { NoLineIsDeleted }
+    ensures whole { WholeIsKept }
+    ensures ended { EndedIsKept }
+    ensures corrections { CorrectionsKeepNothing }
+    ensures asked { AskedStays }
+    ensures legal { AsksAreLegal }
+    ensures all { AllIsFile }
+    ensures begins { OneBegins }
 {}
 
 /// Results, and lines that are lost.

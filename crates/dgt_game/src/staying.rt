@@ -66,7 +66,11 @@ impl Staying {
         }
         Staying {
             loose: self.loose - 1,
-            own: if self.own < MANY { self.own.saturating_sub(1) } else { MANY },
+            own: if self.own < MANY {
+                self.own.saturating_sub(1)
+            } else {
+                MANY
+            },
             is_back: true,
             stays: self.stays,
         }

@@ -113,10 +113,10 @@ impl Recogniser {
         ensures sure { StaysSure self.old self.new }
         ensures notes { Notes self.old result self.new }
     {
+        let is_whole = self.stays_whole();
         if let Some(event) = self.next_before() {
             return Some(event);
         }
-        let is_whole = self.stays_whole();
         let stays = self.staying.after_back(is_whole).stays;
         if let Some(event) = self.memory.next_event(stays) {
             self.staying = self.staying.after(&event, is_whole);
