@@ -131,7 +131,7 @@ static void print_event(const dgt_game_event *event) {
     case DGT_GAME_MADE: break;
     case DGT_GAME_UNSEEN: printf("unseen"); break;
     case DGT_GAME_GAP: printf("gap %d ", event->count), print_fen(&event->state); break;
-    case DGT_GAME_BACK: printf("back %d", event->count); break;
+    case DGT_GAME_BACK: printf("back %d%s", event->count, event->stays ? " stays" : ""); break;
     case DGT_GAME_ENDED: printf("%s", RESULTS[event->result]); break;
     case DGT_GAME_LOST: printf("lost"); break;
     default: printf("found");

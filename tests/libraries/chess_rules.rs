@@ -113,7 +113,7 @@ fn said(event: &Event) -> String {
             format!("unseen {}", texts.join(" "))
         }
         Event::Gap(state, count) => format!("gap {count} {state}"),
-        Event::Back(count) => format!("back {count}"),
+        Event::Back(count, stays) => format!("back {count}{}", if *stays { " stays" } else { "" }),
         Event::Ended(GameResult::WhiteWins) => "1-0".to_string(),
         Event::Ended(GameResult::BlackWins) => "0-1".to_string(),
         Event::Ended(GameResult::Draw) => "1/2-1/2".to_string(),

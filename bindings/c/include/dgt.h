@@ -1410,7 +1410,7 @@ enum {
     DGT_GAME_GAP = 4,    /* moves were made, but it isn't known which. Some legal line of as many
                             leads to the state, whose position was shown: count, state */
     DGT_GAME_BACK = 5,   /* moves are taken back, of the last DGT_GAME_MADE, DGT_GAME_UNSEEN or
-                            DGT_GAME_GAP: count */
+                            DGT_GAME_GAP: count, stays */
     DGT_GAME_ENDED = 6,  /* the game has ended: result */
     DGT_GAME_LOST = 7,   /* no moves lead to what the board shows: squares */
     DGT_GAME_FOUND = 8   /* the board shows a position of the game again */
@@ -1431,7 +1431,9 @@ typedef struct dgt_game_event {
                               otherwise 0 */
     dgt_chess_move moves[DGT_MAX_UNSEEN]; /* the first `count`; the others are 0 */
     dgt_chess_state state;
-    uint8_t reserved[20];  /* each 0 */
+    uint8_t stays;         /* 1 if what is taken back since moves were made last stays: keep the
+                              game with it, too; and otherwise 0 */
+    uint8_t reserved[19];  /* each 0 */
     uint64_t squares;      /* the squares whose pieces differ from those of the last state: bit n is
                               square n of that state. On a turned board that is square 63 - n */
 } dgt_game_event;

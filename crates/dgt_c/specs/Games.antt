@@ -89,7 +89,8 @@ game_event_reported (Event.Unseen moves) = record NO_GAME_EVENT {
 }
 game_event_reported (Event.Gap state count) =
     record NO_GAME_EVENT { kind = GAME_GAP; count = count; state = state_reported state }
-game_event_reported (Event.Back count) = record NO_GAME_EVENT { kind = GAME_BACK; count = count }
+game_event_reported (Event.Back count stays) =
+    record NO_GAME_EVENT { kind = GAME_BACK; count = count; stays = flag stays }
 game_event_reported (Event.Ended outcome) =
     record NO_GAME_EVENT { kind = GAME_ENDED; result = result_number outcome }
 game_event_reported (Event.Lost squares) =

@@ -15,8 +15,10 @@ use Rattle.dgt_game.specs.Reading.{FollowsSeen, IsExplained}
 use Rattle.dgt_game.specs.Recogniser.{GoesOn, Knows, Reports, Sees, picture_of, pictured}
 use Rattle.dgt_game.specs.Settling.{IsAnswered}
 use Rattle.dgt_game.specs.Standing.{IsThere, Stands}
+use Rattle.dgt_game.specs.declared.staying.TheConstants.{NONE_STAYS}
+use Rattle.dgt_game.specs.Staying.{after_step}
 use Rattle.dgt_game.specs.Sure.{KnowsSure, SeesSure, StaysSure}
-use Rattle.dgt_game.specs.Timing.{Due, IsIdle}
+use Rattle.dgt_game.specs.Timing.{Due, IsIdle, Marks}
 use Rattle.dgt_game.specs.Told.{Told, told_pieces}
 use Rattle.dgt_game.specs.Waiting.{Follows, IsOfLine, IsQuiet, IsRight, Waits, has_result, is_lost, is_sure_sight}
 use Rattle.dgt_c.specs.Games.{game_event_reported}
@@ -42,6 +44,7 @@ pub record HasSeen (old : Recogniser) (seen : Observation) (new : Recogniser) : 
   pub right : Waits old → Waits new
   pub follows : Follows old None new
   pub doubt : is_sure_sight seen.sight ≡ false → IsQuiet new
+  pub staying : new.staying ≡ old.staying
   pub answers : (shown : List (List Piece)) (line : List Told) → Knows shown line old
       → Stands old → IsAnswered new.memory
   -- what it keeps
@@ -66,6 +69,7 @@ pub record HasTold (now : ℕ) (old : Recogniser) (told : Option Event) (new : R
   pub right : Waits old → Waits new × IfSome told (λ event. IsRight new event)
   pub follows : Waits old → Follows old told new
   pub doubt : old.is_sure ≡ false → IsQuiet old → told ≡ None
+  pub marks : Marks old told new
   pub shown : (new.view ≡ old.view) × (new.since ≡ old.since) × (new.is_sure ≡ old.is_sure)
   pub sure_line : (shown : List (List Piece)) (line : List Told) → Knows shown line old
       → IsPlanned old → Stands old → StaysSure old new
@@ -91,6 +95,7 @@ pub record HasGoneOn (state : State) (is_turned : Bool) (new : Recogniser) : Typ
   }) ∷ []) new
   pub right : Waits new
   pub anew : (has_result new.over ≡ false) × (is_lost new.lost ≡ false)
+  pub staying : new.staying ≡ after_step NONE_STAYS
   pub start : MatchOption (slice_get new.memory.line.items 0) ⊥
       (λ node. node.origin ≡ Origin.Start)
   -- what it keeps

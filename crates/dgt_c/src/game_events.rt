@@ -63,9 +63,10 @@ pub(crate) fn game_event_for_c(event: &Event) -> DgtGameEvent
             state: state_for_c(state),
             ..NO_GAME_EVENT
         },
-        Event::Back(count) => DgtGameEvent {
+        Event::Back(count, stays) => DgtGameEvent {
             kind: GAME_BACK,
             count: *count,
+            stays: u8::from(*stays),
             ..NO_GAME_EVENT
         },
         Event::Ended(outcome) => DgtGameEvent {

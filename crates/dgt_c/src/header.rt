@@ -515,7 +515,8 @@ pub struct DgtGameEvent {
     pub turned: u8,
     pub moves: [DgtChessMove; GAP],
     pub state: DgtChessState,
-    pub reserved: [u8; 20],
+    pub stays: u8,
+    pub reserved: [u8; 19],
     pub squares: u64,
 }
 
@@ -527,7 +528,8 @@ pub const NO_GAME_EVENT: DgtGameEvent = DgtGameEvent {
     turned: 0,
     moves: [NO_CHESS_MOVE; GAP],
     state: NO_CHESS_STATE,
-    reserved: [0; 20],
+    stays: 0,
+    reserved: [0; 19],
     squares: 0,
 };
 

@@ -17,14 +17,14 @@ joined_on (last ∷ line) new (Event.Made one) h leads =
 joined_on (last ∷ line) new (Event.Unseen moves) h leads =
     rw leads.3 ((moves_of moves, refl, leads.1), refl, h)
 joined_on (last ∷ line) new (Event.Gap state count) h leads = rw leads.1 (leads.0, refl, h)
-joined_on (last ∷ line) new (Event.Back count) h leads = rw leads.2 (rest_joined last line h)
+joined_on (last ∷ line) new (Event.Back count stays) h leads = rw leads.2 (rest_joined last line h)
 joined_on line new (Event.Ended result) h leads = rw leads h
 joined_on line new (Event.Lost squares) h leads = rw leads h
 joined_on line new Event.Found h leads = rw leads h
 joined_on [] new (Event.Made one) h leads = absurd leads
 joined_on [] new (Event.Unseen moves) h leads = absurd leads
 joined_on [] new (Event.Gap state count) h leads = absurd leads
-joined_on [] new (Event.Back count) h leads = absurd leads
+joined_on [] new (Event.Back count stays) h leads = absurd leads
 
 joined_after : (events : List Event) (line new : List Told) → AreJoined line
     → IsLegalTold line events new → AreJoined new

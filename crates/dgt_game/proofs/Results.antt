@@ -20,7 +20,7 @@ second_result : (between : List Event) (second : GameResult) (had has : Bool) �
     → Stay between → HasResults had (between ++ Event.Ended second ∷ []) has → ⊥
 second_result [] second had has e stay h = let none = h.1.0 in let wrong : ⊥ = cc in wrong
 second_result (Event.Begun state is_turned ∷ events) second had has e stay h = stay
-second_result (Event.Back count ∷ events) second had has e stay h = stay
+second_result (Event.Back count held ∷ events) second had has e stay h = stay
 second_result (Event.Ended result ∷ events) second had has e stay h =
     let none = h.1.0 in let wrong : ⊥ = cc in wrong
 second_result (Event.Made one ∷ events) second had has e stay h =
@@ -46,7 +46,7 @@ lost_twice (Event.Lost squares ∷ events) second was now e none h =
     let free = h.1.0 in let wrong : ⊥ = cc in wrong
 lost_twice (Event.Begun state is_turned ∷ events) second was now e none h =
     lost_twice events second h.0 now (h.1 ∙ e) none h.2
-lost_twice (Event.Back count ∷ events) second was now e none h =
+lost_twice (Event.Back count held ∷ events) second was now e none h =
     lost_twice events second h.0 now (h.1 ∙ e) none h.2
 lost_twice (Event.Ended result ∷ events) second was now e none h =
     lost_twice events second h.0 now (h.1 ∙ e) none h.2
@@ -65,7 +65,7 @@ found_twice (Event.Found ∷ events) was now e none h =
     let lost = h.1.0 in let wrong : ⊥ = cc in wrong
 found_twice (Event.Begun state is_turned ∷ events) was now e none h =
     found_twice events h.0 now (h.1 ∙ e) none h.2
-found_twice (Event.Back count ∷ events) was now e none h =
+found_twice (Event.Back count held ∷ events) was now e none h =
     found_twice events h.0 now (h.1 ∙ e) none h.2
 found_twice (Event.Ended result ∷ events) was now e none h =
     found_twice events h.0 now (h.1 ∙ e) none h.2
@@ -121,7 +121,7 @@ not_found (Event.Begun state is_turned ∷ events) none = not_found events (rest
 not_found (Event.Made one ∷ events) none = not_found events (rest_not _ _ _ none)
 not_found (Event.Unseen moves ∷ events) none = not_found events (rest_not _ _ _ none)
 not_found (Event.Gap state count ∷ events) none = not_found events (rest_not _ _ _ none)
-not_found (Event.Back count ∷ events) none = not_found events (rest_not _ _ _ none)
+not_found (Event.Back count held ∷ events) none = not_found events (rest_not _ _ _ none)
 not_found (Event.Ended result ∷ events) none = not_found events (rest_not _ _ _ none)
 not_found (Event.Lost squares ∷ events) none = not_found events (rest_not _ _ _ none)
 not_found (Event.Found ∷ events) none = absurd (none (first_has _ _))
@@ -134,30 +134,30 @@ not_lost (Event.Begun state is_turned ∷ events) none =
 not_lost (Event.Made one ∷ events) none = not_lost events (λ n. rest_not _ _ _ (none n))
 not_lost (Event.Unseen moves ∷ events) none = not_lost events (λ n. rest_not _ _ _ (none n))
 not_lost (Event.Gap state count ∷ events) none = not_lost events (λ n. rest_not _ _ _ (none n))
-not_lost (Event.Back count ∷ events) none = not_lost events (λ n. rest_not _ _ _ (none n))
+not_lost (Event.Back count held ∷ events) none = not_lost events (λ n. rest_not _ _ _ (none n))
 not_lost (Event.Ended result ∷ events) none = not_lost events (λ n. rest_not _ _ _ (none n))
 not_lost (Event.Lost squares ∷ events) none = absurd (none squares (first_has _ _))
 not_lost (Event.Found ∷ events) none = not_lost events (λ n. rest_not _ _ _ (none n))
 
-pub stays : (events : List Event) → ((count : ℕ) → ¬ (Contains events (Event.Back count)))
+pub stays : (events : List Event) → ((count : ℕ) (stays : Bool) → ¬ (Contains events (Event.Back count stays)))
     → ((state : State) (is_turned : Bool) → ¬ (Contains events (Event.Begun state is_turned)))
     → Stay events
 stays [] back begun = tt
 stays (Event.Begun state is_turned ∷ events) back begun =
     absurd (begun state is_turned (first_has _ _))
 stays (Event.Made one ∷ events) back begun =
-    stays events (λ n. rest_not _ _ _ (back n)) (λ s t. rest_not _ _ _ (begun s t))
+    stays events (λ n t. rest_not _ _ _ (back n t)) (λ s t. rest_not _ _ _ (begun s t))
 stays (Event.Unseen moves ∷ events) back begun =
-    stays events (λ n. rest_not _ _ _ (back n)) (λ s t. rest_not _ _ _ (begun s t))
+    stays events (λ n t. rest_not _ _ _ (back n t)) (λ s t. rest_not _ _ _ (begun s t))
 stays (Event.Gap state count ∷ events) back begun =
-    stays events (λ n. rest_not _ _ _ (back n)) (λ s t. rest_not _ _ _ (begun s t))
-stays (Event.Back count ∷ events) back begun = absurd (back count (first_has _ _))
+    stays events (λ n t. rest_not _ _ _ (back n t)) (λ s t. rest_not _ _ _ (begun s t))
+stays (Event.Back count held ∷ events) back begun = absurd (back count held (first_has _ _))
 stays (Event.Ended result ∷ events) back begun =
-    stays events (λ n. rest_not _ _ _ (back n)) (λ s t. rest_not _ _ _ (begun s t))
+    stays events (λ n t. rest_not _ _ _ (back n t)) (λ s t. rest_not _ _ _ (begun s t))
 stays (Event.Lost squares ∷ events) back begun =
-    stays events (λ n. rest_not _ _ _ (back n)) (λ s t. rest_not _ _ _ (begun s t))
+    stays events (λ n t. rest_not _ _ _ (back n t)) (λ s t. rest_not _ _ _ (begun s t))
 stays (Event.Found ∷ events) back begun =
-    stays events (λ n. rest_not _ _ _ (back n)) (λ s t. rest_not _ _ _ (begun s t))
+    stays events (λ n t. rest_not _ _ _ (back n t)) (λ s t. rest_not _ _ _ (begun s t))
 
 -- ---- How games end
 

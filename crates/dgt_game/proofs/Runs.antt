@@ -42,7 +42,7 @@ over_calls : (calls : List Call) (shown sure : List (List Piece)) (line : List T
     (old ended : Recogniser) → IsSound shown sure line old → Runs old calls ended
     → Leads_on shown sure line calls ended
 over_calls [] shown sure line old ended h runs = (line, refl, rw runs h)
-over_calls (Call.See sight ∷ calls) shown sure line old ended h (next, (sees, sound, seen), runs) =
+over_calls (Call.See sight ∷ calls) shown sure line old ended h (next, (sees, sound, seen, same), runs) =
     let after = sound shown line h.known h.planned h.stands in
     over_calls calls (shown_after sight shown) (sure_after sight sure) line next ended (record {
       known = sees shown line h.known;
@@ -51,17 +51,17 @@ over_calls (Call.See sight ∷ calls) shown sure line old ended h (next, (sees, 
       seen = seen sure h.seen;
     }) runs
 over_calls (Call.Due None ∷ calls) shown sure line old ended h
-    (next, (reports, sound, seen), runs) =
+    (next, (reports, sound, seen, marks), runs) =
     over_calls calls shown sure line next ended (search (rules, stays_sound)) runs
 over_calls (Call.Due (Some event) ∷ calls) shown sure line old ended h
-    (next, (reports, sound, seen), runs) =
+    (next, (reports, sound, seen, marks), runs) =
     let (told, leads, known) = reports shown line h.known in
     let (after, legal, last) = over_calls calls shown sure told next ended (stays_sound shown sure
     shown line told old next h sound known
     (seen shown line h.known h.planned h.stands sure h.seen)) runs in
     (after, (told, leads, legal), last)
 over_calls (Call.GoOn state is_turned ∷ calls) shown sure line old ended h
-    (next, (goes, planned, stands, seen), runs) =
+    (next, (goes, planned, stands, seen, same), runs) =
     let told : Told = record { state = state; halves = 0; is_turned = is_turned } in
     let pieces = told_pieces told in
     let known : Knows (pieces ∷ shown) (told ∷ []) next =

@@ -1,6 +1,6 @@
 -- What is done whenever `due` is called.
 use Rattle.std.{proofs.{Common.{rules, ◌≡◌, ◌∙◌, ◌++◌, ◌≤◌, ◌<◌, ap, refl, sym, subst, ℕ, false, List, [], ◌∷◌, Option, Some, None}, lemmas.Option.{none-some}}, specs.Prelude.{IfSome, MatchOption}}
-use Rattle.dgt_game.specs.{declared.{event.Event.{Event}, recogniser.Recogniser.{Recogniser}, resting.Next.{Next}}, Timing.{Acts, AllDue, Calls, DoneBy, Due, HasTask, IsIdle, NoCallMatters}}
+use Rattle.dgt_game.specs.{declared.{event.Event.{Event}, recogniser.Recogniser.{Recogniser}, resting.Next.{Next}}, Timing.{Acts, AllDue, Calls, DoneBy, Due, HasTask, IsIdle, Marks, NoCallMatters}}
 use Rattle.dgt_game.specs.{Recogniser.{Reports}, Timing.{DueEnds, DueIsRight}, Waiting.{Waits}}
 use Rattle.dgt_game.specs.{Timing.{Tells, next_time, with_report}, Waiting.{Follows, IsQuiet, IsRight}}
 
@@ -149,3 +149,20 @@ done_ends now (next ∷ done) old new h = done_ends now done next new h.4
 
 pub due_ends : DueEnds
 due_ends now old new due = done_ends now due.0 old new due.1
+
+-- what is known of the line's steps
+
+marks_by : (now : ℕ) (done : List Recogniser) (old new : Recogniser) (report : Option Event)
+    → DoneBy now done old report new → Marks old report new
+marks_by now [] old new report (tells, idle) = (old, refl, refl, tells.7)
+marks_by now (next ∷ done) old new report (quiet, tells, has, acts, more) =
+    let (self, same, over, notes) = marks_by now done next new report more in (
+      self,
+      same ∙ acts.4 ∙ tells.7.0,
+      over ∙ acts.2.0 ∙ tells.7.1,
+      notes,
+    )
+
+pub marks_of : (now : ℕ) (old new : Recogniser) (report : Option Event) → Due now old report new
+    → Marks old report new
+marks_of now old new report due = marks_by now due.0 old new report due.1

@@ -1,5 +1,5 @@
 -- The line, as it is reported.
-use Rattle.std.proofs.{Common.{rules, ◌≡◌, ◌≢◌, ◌<◌, ◌-◌, ◌⊎◌, refl, subst, inl, inr, arith, ℕ, zero, suc, length, take, List, [], ◌∷◌, Option, Some, None}, lemmas.Grind.{common_steps}}
+use Rattle.std.proofs.{Common.{rules, ◌≡◌, ◌≢◌, ◌<◌, ◌-◌, ◌⊎◌, refl, subst, inl, inr, arith, ℕ, Bool, zero, suc, length, take, List, [], ◌∷◌, Option, Some, None}, lemmas.Grind.{common_steps}}
 use Rattle.{std.specs.Prelude.{⊤, slice_get, MatchOption}, dgt_values.specs.declared.pieces.Piece.{Piece}, dgt_chess.specs.declared.state.State.{State}, dgt_game.specs.declared.event.Event.{Event}}
 use Rattle.dgt_game.specs.{declared.node.{Node.{Node}, Step.{Step}, Way.{Way}, Place.{Place}}, Told.{Told, IsShown, Leads}, Memory.{By, Chain, Grows, AreLast, IsKept, IsRooted, IsSeen, Links}}
 use Rattle.dgt_game.specs.Memory.{event_by, event_of, halves_of, line_after, line_by, step_at, steps, tip, told_of}
@@ -52,34 +52,34 @@ makes shown line kept new rest step is_kept is_shown chain first = search (rules
 
 -- a state further back stands before the last one
 takes_back : (shown : List (List Piece)) (line : List Told) (first : Node) (kept : List Node) (back
-    : ℕ) → back ≢ 0 → (back ≡ 0) ⊎ (back < length (steps (first ∷ kept)))
+    : ℕ) (stays : Bool) → back ≢ 0 → (back ≡ 0) ⊎ (back < length (steps (first ∷ kept)))
     → IsKept (steps (first ∷ kept)) line → IsShown shown line → (new : List Told)
-    × Leads line (Event.Back (halves_of first.step.way)) new × IsShown shown new
+    × Leads line (Event.Back (halves_of first.step.way) stays) new × IsShown shown new
     × IsKept (steps kept) new × ((back - 1 ≡ 0) ⊎ (back - 1 < length (steps kept)))
     × (slice_get (steps (first ∷ kept)) back ≡ slice_get (steps kept) (back - 1))
-takes_back shown line first kept zero some within is_kept is_shown = absurd (some refl)
-takes_back shown [] first kept (suc k) some within is_kept is_shown = absurd is_kept.0
-takes_back shown (told ∷ line) first [] (suc k) some within is_kept is_shown =
+takes_back shown line first kept zero stays some within is_kept is_shown = absurd (some refl)
+takes_back shown [] first kept (suc k) stays some within is_kept is_shown = absurd is_kept.0
+takes_back shown (told ∷ line) first [] (suc k) stays some within is_kept is_shown =
     absurd (elim within [ inl e ↦ omega arith | inr l ↦ omega arith ])
-takes_back shown (told ∷ []) first (second ∷ kept) (suc k) some within is_kept is_shown =
+takes_back shown (told ∷ []) first (second ∷ kept) (suc k) stays some within is_kept is_shown =
     absurd is_kept.0.1
-takes_back shown (told ∷ before ∷ line) first (second ∷ kept) (suc k) some within is_kept is_shown
+takes_back shown (told ∷ before ∷ line) first (second ∷ kept) (suc k) stays some within is_kept is_shown
     = search rules
 
 pub taken_back : (shown : List (List Piece)) (line : List Told) (nodes new : List Node) (back
-    halves : ℕ) → ((first : Node) (rest : List Node) → nodes ≡ first ∷ rest → new ≡ rest)
+    halves : ℕ) (stays : Bool) → ((first : Node) (rest : List Node) → nodes ≡ first ∷ rest → new ≡ rest)
     → ((first : Node) (rest : List Node) → nodes ≡ first ∷ rest
     → halves ≡ halves_of first.step.way) → back ≢ 0 → (back ≡ 0) ⊎ (back < length (steps nodes))
     → IsKept (steps nodes) line → IsShown shown line → (told : List Told)
-    × Leads line (Event.Back halves) told × IsShown shown told × IsKept (steps new) told
+    × Leads line (Event.Back halves stays) told × IsShown shown told × IsKept (steps new) told
     × ((back - 1 ≡ 0) ⊎ (back - 1 < length (steps new)))
     × (slice_get (steps nodes) back ≡ slice_get (steps new) (back - 1))
-taken_back shown line [] new back halves drops counts some within is_kept is_shown = absurd (elim
+taken_back shown line [] new back halves stays drops counts some within is_kept is_shown = absurd (elim
     within [ inl e ↦ some e | inr l ↦ omega arith ])
-taken_back shown line (first ∷ rest) new back halves drops counts some within is_kept is_shown =
+taken_back shown line (first ∷ rest) new back halves stays drops counts some within is_kept is_shown =
     let e : new ≡ rest = drops first rest refl in
     let n : halves ≡ halves_of first.step.way = counts first rest refl in
-    rw e (rw n (takes_back shown line first rest back some within is_kept is_shown))
+    rw e (rw n (takes_back shown line first rest back stays some within is_kept is_shown))
 
 pub nothing_seen : (seen : List Step) (unsaid rest : List Node) (node : Node) (back : ℕ)
     → (seen ≡ []) ⊎ ((back ≡ 0) × (unsaid ≡ [])) → unsaid ≡ node ∷ rest → seen ≡ []

@@ -1,5 +1,5 @@
 -- What lines, events and pictures mean, in other words.
-use Rattle.std.specs.Prelude.{◌≡◌, ◌≢◌, ◌<◌, ◌≤◌, ◌+◌, ⊤, ℕ, List, [], ◌∷◌, Some, Contains, length, slice_get}
+use Rattle.std.specs.Prelude.{◌≡◌, ◌≢◌, ◌<◌, ◌≤◌, ◌+◌, ⊤, ℕ, Bool, List, [], ◌∷◌, Some, Contains, length, slice_get}
 use Rattle.dgt_values.specs.declared.pieces.Piece.{Piece}
 use Rattle.dgt_values.specs.Board.{square_number}
 use Rattle.dgt_chess.specs.declared.pieces.Man.{Man}
@@ -65,7 +65,7 @@ UnseenIsOnly =
 -- As many half-moves are taken back as are reported, and never the state that a line begins with.
 abbrev pub BackIsCounted : Type 0
 BackIsCounted =
-    (line new : List Told) (count : ℕ) → Leads line (Event.Back count) new
+    (line new : List Told) (count : ℕ) (stays : Bool) → Leads line (Event.Back count stays) new
     → (new ≢ []) × (halves_in line ≡ count + halves_in new)
 
 -- A position after several half-moves was shown as it is.

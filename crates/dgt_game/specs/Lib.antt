@@ -6,12 +6,14 @@ pub mod Recogniser
 pub mod Laws
 pub mod Results
 pub mod Waiting
+pub mod Staying
 pub mod Timing
 pub mod Planning
 pub mod Reading
 pub mod Standing
 pub mod Sure
 pub mod Runs
+pub mod Filed
 pub mod Settling
 pub mod Finding
 -- Only for bodies.

@@ -12,6 +12,7 @@ use Rattle.dgt_game.specs.declared.recogniser.Lost.{Lost}
 use Rattle.dgt_game.specs.declared.recogniser.Over.{Over}
 use Rattle.dgt_game.specs.declared.recogniser.Recogniser.{Recogniser}
 use Rattle.dgt_game.specs.declared.recogniser.Search.{Search}
+use Rattle.dgt_game.specs.declared.staying.TheConstants.{NONE_STAYS}
 use Rattle.dgt_game.specs.declared.view.View.{View}
 use Rattle.dgt_game.specs.Told.{Leads, Told, told_pieces}
 use Rattle.dgt_game.specs.Memory.{Holds, IsTold}
@@ -49,6 +50,7 @@ new_recogniser = record {
   is_set_up = false;
   is_white_king_lifted = false;
   is_black_king_lifted = false;
+  staying = NONE_STAYS;
 }
 
 -- what is so after these pictures were shown and this line was reported

@@ -66,7 +66,7 @@ ByKings picture state result = KingsMean picture result × IsLike picture (board
 abbrev pub HasResult : Bool → Event → Bool → Type 0
 HasResult had (Event.Ended result) has = (had ≡ false) × (has ≡ true)
 HasResult had (Event.Begun state is_turned) has = has ≡ false
-HasResult had (Event.Back count) has = has ≡ false
+HasResult had (Event.Back count stays) has = has ≡ false
 HasResult had event has = has ≡ had
 
 -- Whether a line is lost after an event, if it was before or not. It is lost and found in turn.
@@ -106,7 +106,7 @@ HasResults had (event ∷ events) has =
 abbrev pub Stay : List Event → Type 0
 Stay [] = ⊤
 Stay (Event.Begun state is_turned ∷ events) = ⊥
-Stay (Event.Back count ∷ events) = ⊥
+Stay (Event.Back count stays ∷ events) = ⊥
 Stay (event ∷ events) = Stay events
 
 -- between two results a line begins, or half-moves are taken back

@@ -16,6 +16,9 @@ use Rattle.dgt_game.specs.declared.view.View.{View}
 use Rattle.dgt_game.specs.Settling.{ReportsNow, ShowsEnd, StaysShown}
 use Rattle.dgt_game.specs.Standing.{IsThere, Stands}
 use Rattle.dgt_game.specs.Sure.{EndsSure, KnowsSure, SeesSure, StaysSure, sure_after}
+use Rattle.dgt_game.specs.Staying.{after_step}
+use Rattle.dgt_game.specs.declared.staying.TheConstants.{NONE_STAYS}
+use Rattle.dgt_game.specs.Timing.{Marks}
 use Rattle.dgt_game.specs.Waiting.{is_sure_sight}
 
 -- A call that was done: what was seen, what was reported if anything, or what was gone on from.
@@ -31,13 +34,17 @@ StaysSound old new =
     → Stands old → IsPlanned new × Stands new
 
 abbrev pub Does : Recogniser → Call → Recogniser → Type 0
-Does old (Call.See sight) new = Sees old sight new × StaysSound old new × SeesSure old sight new
+Does old (Call.See sight) new =
+    Sees old sight new × StaysSound old new × SeesSure old sight new
+    × (new.staying ≡ old.staying)
 Does old (Call.Due report) new =
     Reports old report new × StaysSound old new × ((shown : List (List Piece)) (line : List Told)
     → Knows shown line old → IsPlanned old → Stands old → StaysSure old new)
+    × Marks old report new
 Does old (Call.GoOn state is_turned) new =
     GoesOn state is_turned new × IsPlanned new × Stands new
     × KnowsSure (as_shown is_turned (board state) ∷ []) new
+    × (new.staying ≡ after_step NONE_STAYS)
 
 -- consecutive calls
 abbrev pub Runs : Recogniser → List Call → Recogniser → Type 0
@@ -49,13 +56,13 @@ abbrev pub CallsAreRuns : Type 0
 CallsAreRuns =
     (old new : Recogniser)
     → ((sight : Sight) → Sees old sight new → StaysSound old new → SeesSure old sight new
-    → Does old (Call.See sight) new)
+    → new.staying ≡ old.staying → Does old (Call.See sight) new)
     × ((report : Option Event) → Reports old report new → StaysSound old new
     → ((shown : List (List Piece)) (line : List Told) → Knows shown line old → IsPlanned old
-    → Stands old → StaysSure old new) → Does old (Call.Due report) new)
+    → Stands old → StaysSure old new) → Marks old report new → Does old (Call.Due report) new)
     × ((state : State) (is_turned : Bool) → GoesOn state is_turned new → IsPlanned new → Stands new
     → KnowsSure (as_shown is_turned (board state) ∷ []) new
-    → Does old (Call.GoOn state is_turned) new)
+    → new.staying ≡ after_step NONE_STAYS → Does old (Call.GoOn state is_turned) new)
     × ((call : Call) → Does old call new → Runs old (call ∷ []) new)
     × ((mid : Recogniser) (calls more : List Call) → Runs old calls mid → Runs mid more new
     → Runs old (calls ++ more) new)

@@ -7,7 +7,8 @@ use Rattle.dgt_game.specs.declared.node.{Place.{Place}, Step.{Step}}
 use Rattle.dgt_game.specs.Memory.{IsRooted, IsTold, step_at, steps}
 use Rattle.dgt_game.specs.Planning.{IsPlanned}
 use Rattle.dgt_game.specs.Recogniser.{Reports, Stays}
-use Rattle.dgt_game.specs.Waiting.{Follows, IsQuiet, IsRight, Waits, coming}
+use Rattle.dgt_game.specs.Staying.{Notes}
+use Rattle.dgt_game.specs.Waiting.{Follows, IsQuiet, IsRight, Waits, coming, has_result}
 
 -- when something is done next, though nothing waits to be reported
 abbrev pub next_time : Recogniser → Option ℕ
@@ -44,12 +45,20 @@ Tells old report new =
     × (report ≡ None → IsQuiet new × (next_time new ≡ next_time old))
     × (IsQuiet old → (report ≡ None) × (new ≡ old))
     × (report ≡ None → IsTold old.memory) × (coming new.memory ≡ coming old.memory)
+    × Notes old report new
 
 -- what is done next
 abbrev pub Acts : Recogniser → Recogniser → Type 0
 Acts old new =
     Stays old new × (IsQuiet old → Waits old → Waits new) × Follows old None new
-    × (IsPlanned old → TellsNext old new)
+    × (IsPlanned old → TellsNext old new) × (new.staying ≡ old.staying)
+
+-- Some recogniser reports, after what a call of `due` did before. What is known of the line's steps
+-- and whether it has a result was the same.
+abbrev pub Marks : Recogniser → Option Event → Recogniser → Type 0
+Marks old report new =
+    (self : Recogniser) × (self.staying ≡ old.staying)
+    × (has_result self.over ≡ has_result old.over) × Notes self report new
 
 -- Each of these is done once it is due, until an event is reported or nothing is due.
 abbrev pub DoneBy : ℕ → List Recogniser → Recogniser → Option Event → Recogniser → Type 0

@@ -45,7 +45,7 @@ Leads (last ∷ line) (Event.Unseen moves) new =
 Leads (last ∷ line) (Event.Gap state count) new =
     Joins count last.state state
     × (new ≡ record { state = state; halves = count; is_turned = last.is_turned } ∷ last ∷ line)
-Leads (last ∷ line) (Event.Back count) new =
+Leads (last ∷ line) (Event.Back count stays) new =
     (line ≢ []) × (count ≡ last.halves) × (new ≡ line)
 Leads line (Event.Ended result) new = new ≡ line
 Leads line (Event.Lost squares) new = new ≡ line

@@ -146,6 +146,7 @@ Keeps self new =
     × (is_lost new.lost ≡ is_lost self.lost) × (LostWaits self → LostWaits new)
     × (new.since ≡ self.since) × (new.is_sure ≡ self.is_sure)
     × (new.sure_since ≡ self.sure_since) × (new.changed ≡ self.changed)
+    × (new.staying ≡ self.staying)
 
 -- an event of the line
 abbrev pub IsOfLine : Event → Type 0

@@ -109,6 +109,7 @@ impl Recogniser {
             → MatchOption self.old.view ⊥ (λ view. Contains sure (pieces_of view.shown))
             → WereSure sure self.old.memory self.old.returned
             → WereSure sure self.new.memory self.new.returned }
+        ensures staying { self.new.staying ≡ self.old.staying }
     {
         self.has_kings = false;
         let Some(view) = self.view else {

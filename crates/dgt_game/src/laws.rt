@@ -5,6 +5,7 @@ ghost use Rattle.dgt_values.specs.declared.pieces.Piece.{Piece};
 ghost use Rattle.dgt_chess.specs.declared.state.State.{State};
 ghost use Rattle.dgt_game.specs.declared.event.Event.{Event};
 ghost use Rattle.dgt_game.specs.declared.recogniser.Recogniser.{Recogniser};
+ghost use Rattle.dgt_game.specs.Filed.{AllIsFile, AskedStays, AsksAreLegal, CorrectionsKeepNothing, EndedIsKept, NoLineIsDeleted, OneBegins, WholeIsKept};
 ghost use Rattle.dgt_game.specs.Finding.{IsFound, MovedIsSearched, SearchIsDue, WhatFollowsIsFound};
 ghost use Rattle.dgt_game.specs.Laws.{BackIsCounted, JoinedIsOne, LegalIsJoined, NoneAndOne, OneIsShown, OneLine, OthersAreHeld, SeveralAreShown, ShownIsHeld, StartIsShown, UnseenIsOnly};
 ghost use Rattle.dgt_game.specs.Planning.{ElseMayBegin, InTurnIsNotRefused, IsLostOr, IsPlanned, LiftedIsGone, LostIsReported, NothingFits, OneFits, PossibleIsHopeful, WhyHopeless};
@@ -24,7 +25,7 @@ ghost use Rattle.dgt_game.specs.Waiting.{CallsFollowOn, IsQuiet, RightIfAway, Ru
 use crate::event::GAP;
 use crate::times::{
     AT_ONCE, CASTLE, FINAL, FIRST, GLANCE, HANDS, JUMP, KEPT, KINGS, LONG, NEAR, NEW, NEW_STILL,
-    PRESS, REPLACE, ROOTS, SEEN, SETTLE, SHADOW,
+    PRESS, REPLACE, ROOTS, SEEN, SETTLE, SHADOW, STAYS,
 };
 
 /// What is reported is legal and was shown, over whole runs.
@@ -74,6 +75,18 @@ pub fn what_was_sure()
     ensures ends { ShownMayEnd }
 {}
 
+/// No played line is deleted, and corrections keep nothing.
+pub fn no_line_is_deleted()
+    ensures stays { NoLineIsDeleted }
+    ensures whole { WholeIsKept }
+    ensures ended { EndedIsKept }
+    ensures corrections { CorrectionsKeepNothing }
+    ensures asked { AskedStays }
+    ensures legal { AsksAreLegal }
+    ensures all { AllIsFile }
+    ensures begins { OneBegins }
+{}
+
 /// Results, and lines that are lost.
 pub fn what_results_say()
     ensures rules { OneByRules }
@@ -82,7 +95,8 @@ pub fn what_results_say()
     ensures once { OneResult }
     ensures lost { LostInTurn }
     ensures away { RightIfAway }
-    ensures stay { (events : List Event) → ((count : ℕ) → ¬ (Contains events (Event.Back count)))
+    ensures stay { (events : List Event) → ((count : ℕ) (stays : Bool)
+        → ¬ (Contains events (Event.Back count stays)))
         → ((state : State) (is_turned : Bool) → ¬ (Contains events (Event.Begun state is_turned)))
         → Stay events }
     ensures not_found { (events : List Event) → ¬ (Contains events Event.Found)
@@ -180,6 +194,7 @@ pub fn limits()
     ensures glance { GLANCE ≡ 320 }
     ensures kings { KINGS ≡ 1000 }
     ensures is_final { FINAL ≡ 10000 }
+    ensures stays { STAYS ≡ 30000 }
     ensures shadow { SHADOW ≡ 3 }
     ensures near { NEAR ≡ 4 }
     ensures long { LONG ≡ 8 }

@@ -44,6 +44,7 @@ mod reading;
 mod recogniser;
 mod resting;
 mod searching;
+mod staying;
 mod telling;
 mod times;
 mod view;

@@ -1,6 +1,6 @@
 //! What was reported, and what was seen since.
 
-ghost use Rattle.std.specs.Prelude.{◌≡◌, ◌≢◌, ◌⊎◌, ◌<◌, ◌≤◌, ◌↔◌, ℕ, List, [], ◌∷◌, ◌++◌, Option, Some, None, IfSome, IsSome, IsTrue, MatchOption, Contains, length, slice_get, ◌+◌};
+ghost use Rattle.std.specs.Prelude.{◌≡◌, ◌≢◌, ◌⊎◌, ◌<◌, ◌≤◌, ◌↔◌, ℕ, Bool, List, [], ◌∷◌, ◌++◌, Option, Some, None, IfSome, IsSome, IsTrue, MatchOption, Contains, length, slice_get, ◌+◌};
 ghost use Rattle.dgt_values.specs.declared.pieces.Piece.{Piece};
 ghost use Rattle.dgt_game.specs.declared.node.Place.{Place};
 ghost use Rattle.dgt_game.specs.declared.node.Node.{Node};
@@ -33,6 +33,7 @@ pub(crate) struct Memory {
 
 impl Memory {
     ghost use Rattle.dgt_game.specs.Memory.{Holds, IsSeen, IsTold};
+    ghost use Rattle.dgt_game.specs.Staying.{SaysStays};
     ghost use Rattle.dgt_game.specs.Waiting.{IsOfLine, coming};
     ghost use Rattle.dgt_game.specs.Reading.{FollowsSeen};
     ghost use Rattle.dgt_game.specs.Recogniser.{new_memory};
@@ -444,8 +445,8 @@ impl Memory {
         None
     }
 
-    /// Reports the next event, if one waits.
-    pub(crate) fn next_event(&mut self) -> Option<Event>
+    /// Reports the next event, if one waits: if it takes something back, whether that stays, too.
+    pub(crate) fn next_event(&mut self, stays: bool) -> Option<Event>
         ensures told { (shown : List (List Piece)) (line : List Told) → Holds shown line self.old
             → MatchOption result (Holds shown line self.new)
             (λ event. (new : List Told) × Leads line event new × Holds shown new self.new) }
@@ -460,15 +461,16 @@ impl Memory {
         ensures answer { self.new.answer ≡ self.old.answer }
         ensures less { self.new.back ≤ self.old.back }
         ensures seen { self.new.seen ≡ self.old.seen }
+        ensures stays { IfSome result (λ event. SaysStays event stays) }
     {
         if self.back > 0 {
-            Some(self.take_back())
+            Some(self.take_back(stays))
         } else {
             self.make()
         }
     }
 
-    fn take_back(&mut self) -> Event
+    fn take_back(&mut self, stays: bool) -> Event
         ensures holds { (shown : List (List Piece)) (line : List Told) → self.old.back ≢ 0
             → Holds shown line self.old
             → (new : List Told) × Leads line result new × Holds shown new self.new }
@@ -477,9 +479,10 @@ impl Memory {
         ensures answer { self.new.answer ≡ self.old.answer }
         ensures less { self.new.back ≤ self.old.back }
         ensures seen { self.new.seen ≡ self.old.seen }
+        ensures stays { SaysStays result stays }
     {
         self.back = self.back.saturating_sub(1);
-        Event::Back(drop_first(&mut self.line))
+        Event::Back(drop_first(&mut self.line), stays)
     }
 
     // Makes the first half-moves that are to be reported.
@@ -499,6 +502,7 @@ impl Memory {
         ensures answer { self.new.answer ≡ self.old.answer }
         ensures less { self.new.back ≡ self.old.back }
         ensures seen { self.new.seen ≡ self.old.seen }
+        ensures stays { (stays : Bool) → IfSome result (λ event. SaysStays event stays) }
     {
         let Some(node) = take_first(&mut self.unsaid) else {
             return None;

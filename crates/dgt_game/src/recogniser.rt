@@ -18,6 +18,7 @@ use crate::node::{Node, Origin, Place, Returned, Way};
 use crate::observation::{Observation, Sight};
 use crate::reading::{Reading, lacks_some};
 use crate::resting::Next;
+use crate::staying::{NONE_STAYS, Staying};
 use crate::times::{FINAL, GLANCE, NEAR};
 use crate::view::{View, king};
 use crate::ways::is_same;
@@ -90,6 +91,8 @@ pub struct Recogniser {
     pub(crate) is_set_up: bool,
     pub(crate) is_white_king_lifted: bool,
     pub(crate) is_black_king_lifted: bool,
+    // which half-moves of the line stay
+    pub(crate) staying: Staying,
 }
 
 impl Recogniser {
@@ -100,6 +103,8 @@ impl Recogniser {
     ghost use Rattle.dgt_game.specs.Recogniser.{GoesOn, Knows, Sees, last_state, new_recogniser, picture_of, pictured};
     ghost use Rattle.dgt_game.specs.Reading.{ReadsView, Shows};
     ghost use Rattle.dgt_game.specs.Settling.{HasGoneBack, IsAnswered, IsUnexplained, RemembersDoubt, StandsAnew};
+    ghost use Rattle.dgt_game.specs.Staying.{after_step};
+    ghost use Rattle.dgt_game.specs.declared.staying.TheConstants.{NONE_STAYS};
     ghost use Rattle.dgt_game.specs.Standing.{IsOpen, ShowsBut, Stands};
     ghost use Rattle.dgt_game.specs.Sure.{FollowsSure, IsMarked, KeepsSure, KnowsSure, MarksStart, SeesSure, WereSure};
     ghost use Rattle.dgt_game.specs.Timing.{IsIdle};
@@ -135,6 +140,7 @@ impl Recogniser {
             is_set_up: false,
             is_white_king_lifted: false,
             is_black_king_lifted: false,
+            staying: NONE_STAYS,
         }
     }
 
@@ -173,6 +179,7 @@ impl Recogniser {
         ensures sight { IsOk result → SeesSure self.old observation.now.sight self.new }
         ensures running { IsOk result → self.new.running ≡ observation.now.running }
         ensures sure_since { self.old.is_sure ≡ true → self.new.sure_since ≡ self.old.sure_since }
+        ensures staying { self.new.staying ≡ self.old.staying }
         ensures behind { IsOk result → (self.old.is_behind ≡ true) ⊎ ((self.old.is_sure ≡ true)
             × (is_sure_sight observation.now.sight ≡ false)) → (self.new.is_behind ≡ true)
             ⊎ ((self.new.is_sure ≡ true) × (self.new.here ≡ Place.Line 0)) }
@@ -230,8 +237,10 @@ impl Recogniser {
         }) ∷ []) self.new }
         ensures start { MatchOption (slice_get self.new.memory.line.items 0) ⊥
             (λ node. node.origin ≡ Origin.Start) }
+        ensures staying { self.new.staying ≡ after_step NONE_STAYS }
     {
         *self = Recogniser::new();
+        self.staying = NONE_STAYS.after_step();
         self.memory
             .line
             .push(Node::root(state, is_turned, Origin::Start, 0));
@@ -329,6 +338,7 @@ impl Recogniser {
         ensures sure_since { self.new.sure_since ≡ self.old.sure_since }
         ensures behind { RemembersDoubt self.old self.new }
         ensures away { view ≡ None → self.new.here ≡ self.old.here }
+        ensures staying { self.new.staying ≡ self.old.staying }
     {
         self.changed = match (&self.view, &view) {
             (Some(old), Some(new)) => old.shown.differ(&new.shown),

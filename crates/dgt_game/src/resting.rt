@@ -37,7 +37,7 @@ impl Recogniser {
     ghost use Rattle.dgt_game.specs.Settling.{CallsForRest, IsNotPressed, StaysShown};
     ghost use Rattle.dgt_game.specs.Standing.{IsThere, ShowsHere, Stands};
     ghost use Rattle.dgt_game.specs.Sure.{KeepsSure, StaysSure};
-    ghost use Rattle.dgt_game.specs.Timing.{Acts, Due, IsIdle, Tells, TellsNext, next_time};
+    ghost use Rattle.dgt_game.specs.Timing.{Acts, Due, IsIdle, Marks, Tells, TellsNext, next_time};
     ghost use Rattle.dgt_game.specs.Waiting.{Follows, IsOfLine, IsQuiet, IsRight, Keeps, Waits};
 
     /// When [`Recogniser::due`] has something to do next, if nothing else is seen until then.
@@ -83,6 +83,7 @@ impl Recogniser {
         ensures there { (shown : List (List Piece)) (line : List Told)
             → Knows shown line self.old → IsPlanned self.old → Stands self.old → Waits self.old
             → IfSome result (λ event. IsOfLine event → IsThere self.new) }
+        ensures marks { Marks self.old result self.new }
     {
         for done in 0..3u8 {
             if let Some(event) = self.report() {
@@ -207,6 +208,7 @@ impl Recogniser {
         ensures shown { StaysShown self.old self.new }
         ensures sure { IsTold self.old.memory → self.old.is_sure ≡ true → TaskFits self.old task
             → Stands self.old → KeepsSure self.old self.new }
+        ensures staying { self.new.staying ≡ self.old.staying }
     {
         match task {
             Task::EndByKings => self.end_by_kings(),

@@ -1,6 +1,6 @@
 //! What is reported, one event at a time.
 
-ghost use Rattle.std.specs.Prelude.{◌≡◌, ◌≢◌, ◌≤◌, ◌↔◌, ◌⊎◌, List, [], length, None, Some, IfSome, false, true};
+ghost use Rattle.std.specs.Prelude.{◌≡◌, ◌≢◌, ◌≤◌, ◌↔◌, ◌⊎◌, List, [], length, None, Some, IfSome, IsTrue, false, true};
 ghost use Rattle.dgt_chess.specs.Rules.{CanMove};
 ghost use Rattle.dgt_values.specs.declared.pieces.Piece.{Piece};
 ghost use Rattle.dgt_game.specs.Told.{Told};
@@ -13,6 +13,7 @@ ghost use Rattle.dgt_game.specs.Results.{ByRules};
 use crate::event::{Event, GameResult};
 use crate::node::{Node, Origin, Place, Returned, Way};
 use crate::recogniser::{Lost, Over, Recogniser};
+use crate::times::STAYS;
 use dgt_chess::{Colour, State};
 
 impl Recogniser {
@@ -20,6 +21,7 @@ impl Recogniser {
     ghost use Rattle.dgt_game.specs.Planning.{IsAsBefore, IsAtLast, IsLostOr, StaysPlaced};
     ghost use Rattle.dgt_game.specs.Results.{HasResult};
     ghost use Rattle.dgt_game.specs.Settling.{StaysShown};
+    ghost use Rattle.dgt_game.specs.Staying.{HasLastRested, Notes, StaysWhole};
     ghost use Rattle.dgt_game.specs.Standing.{EndsHere, IsAtAnswer, IsCalledFor, IsMeant, IsOpen, IsThere, Stands, TakesBack};
     ghost use Rattle.dgt_game.specs.Sure.{IsMarked, KeepsSure, StaysSure, WasSure, WereSure};
     ghost use Rattle.dgt_game.specs.Timing.{next_time};
@@ -109,11 +111,15 @@ impl Recogniser {
         ensures found { IsLostOr self.old → IsFound self.old → IsFound self.new }
         ensures shown { StaysShown self.old self.new }
         ensures sure { StaysSure self.old self.new }
+        ensures notes { Notes self.old result self.new }
     {
+        let is_whole = self.stays_whole();
         if let Some(event) = self.next_before() {
             return Some(event);
         }
-        if let Some(event) = self.memory.next_event() {
+        let stays = self.staying.after_back(is_whole).stays;
+        if let Some(event) = self.memory.next_event(stays) {
+            self.staying = self.staying.after(&event, is_whole);
             self.follow_up(&event);
             return Some(event);
         }
@@ -123,6 +129,24 @@ impl Recogniser {
         }
         self.over = over;
         Some(Event::Ended(result))
+    }
+
+    // Whether all of the line stays if the next event takes something back: its last half-moves had
+    // rested, or it has ended, and no others replace them at once.
+    fn stays_whole(&self) -> bool
+        ensures { IsTrue result ↔ StaysWhole self.now }
+    {
+        !self.staying.is_back && self.has_last_rested()
+            || self.over != Over::No && self.memory.unsaid.is_empty()
+    }
+
+    fn has_last_rested(&self) -> bool
+        ensures { IsTrue result ↔ HasLastRested self.now.memory }
+    {
+        match self.memory.line.get(0) {
+            Some(node) => node.rested() >= STAYS,
+            None => false,
+        }
     }
 
     // What is reported before the line.
@@ -142,6 +166,7 @@ impl Recogniser {
         ensures found { IsFound self.old → IsFound self.new }
         ensures shown { StaysShown self.old self.new }
         ensures sure { StaysSure self.old self.new }
+        ensures staying { self.new.staying ≡ self.old.staying }
     {
         match self.next_notice() {
             Some(event) => Some(event),
@@ -166,6 +191,7 @@ impl Recogniser {
         ensures found { IsFound self.old → IsFound self.new }
         ensures shown { StaysShown self.old self.new }
         ensures sure { StaysSure self.old self.new }
+        ensures staying { self.new.staying ≡ self.old.staying }
     {
         if self.over != Over::No || !self.memory.begins_next() {
             return None;
@@ -198,6 +224,7 @@ impl Recogniser {
         ensures found { IsFound self.old → IsFound self.new }
         ensures shown { StaysShown self.old self.new }
         ensures sure { StaysSure self.old self.new }
+        ensures staying { self.new.staying ≡ self.old.staying }
     {
         match self.lost {
             Lost::Now(squares) => {
@@ -246,9 +273,10 @@ impl Recogniser {
         ensures sure { KeepsSure self.old self.new }
         ensures ends { IsTold self.old.memory → IfSome (last_of self.new.memory)
             (λ step. MustEnd step → EndsByRules self.old.since step self.new.ended) }
+        ensures staying { self.new.staying ≡ self.old.staying }
     {
         match event {
-            Event::Begun(_, _) | Event::Back(_) => self.over = Over::No,
+            Event::Begun(_, _) | Event::Back(_, _) => self.over = Over::No,
             _ => {}
         }
         if self.memory.is_quiet() {

@@ -39,6 +39,9 @@ pub(crate) const KINGS: u64 = 1000;
 /// How long after a mate a line is still followed, in case it wasn't one.
 pub(crate) const FINAL: u64 = 10_000;
 
+/// Half-moves stay for good, though they are taken back later.
+pub(crate) const STAYS: u64 = 30_000;
+
 /// A line begins from an unexplained position once more half-moves than this follow it.
 pub(crate) const SHADOW: u8 = 3;
 

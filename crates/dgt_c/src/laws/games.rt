@@ -63,8 +63,8 @@ pub fn said_events()
         } }
     ensures gap { (state : State) (count : ℕ) → game_event_reported (Event.Gap state count)
         ≡ record NO_GAME_EVENT { kind = 4; count = count; state = state_reported state } }
-    ensures back { (count : ℕ) → game_event_reported (Event.Back count)
-        ≡ record NO_GAME_EVENT { kind = 5; count = count } }
+    ensures back { (count : ℕ) (stays : Bool) → game_event_reported (Event.Back count stays)
+        ≡ record NO_GAME_EVENT { kind = 5; count = count; stays = flag stays } }
     ensures ended { (outcome : GameResult) → game_event_reported (Event.Ended outcome)
         ≡ record NO_GAME_EVENT { kind = 6; result = result_number outcome } }
     ensures lost { (squares : ℕ) → game_event_reported (Event.Lost squares)

@@ -244,7 +244,8 @@ pub fn layouts()
     ensures chess_state { LiesAs chess_state_row 80 2 (0 ∷ 64 ∷ 66 ∷ 68 ∷ 69 ∷ 73 ∷ 74 ∷ []) }
     ensures chess_move { LiesAs chess_move_row 4 1 (0 ∷ 1 ∷ 2 ∷ 3 ∷ []) }
     ensures chess_fen_read { LiesAs chess_fen_read_row 16 8 (0 ∷ 1 ∷ 8 ∷ []) }
-    ensures game_event { LiesAs game_event_row 128 8 (0 ∷ 1 ∷ 2 ∷ 3 ∷ 4 ∷ 20 ∷ 100 ∷ 120 ∷ []) }
+    ensures game_event { LiesAs game_event_row 128 8 (0 ∷ 1 ∷ 2 ∷ 3 ∷ 4 ∷ 20 ∷ 100 ∷ 101 ∷ 120
+        ∷ []) }
 {}
 
 /// The members of the structs of `dgt.h`, in the order of their declaration.
@@ -283,7 +284,7 @@ pub fn members()
     ensures chess_fen_read { (it : DgtChessFenRead) → chess_fen_read_type.as_values it ≡ it.status
         ⊗ it.field ⊗ it.at ⊗ tt }
     ensures game_event { (it : DgtGameEvent) → game_event_type.as_values it ≡ it.kind ⊗ it.count
-        ⊗ it.result ⊗ it.turned ⊗ it.moves ⊗ it.state ⊗ it.reserved ⊗ it.squares ⊗ tt }
+        ⊗ it.result ⊗ it.turned ⊗ it.moves ⊗ it.state ⊗ it.stays ⊗ it.reserved ⊗ it.squares ⊗ tt }
 {}
 
 /// A clone is the value itself, and cloning never fails.

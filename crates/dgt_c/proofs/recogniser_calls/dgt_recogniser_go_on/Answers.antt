@@ -17,6 +17,7 @@ returns-in-Some-Ok-clause-on c = λ _.
         sure_line = h.sure;
         right = h.right;
         anew = h.anew;
+        staying = h.staying;
         start = h.start;
         stands = h.stands;
         planned = h.planned;

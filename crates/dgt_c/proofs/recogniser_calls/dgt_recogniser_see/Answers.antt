@@ -20,6 +20,7 @@ returns-in-Ok-see-clause-seen c = λ _.
       right = h.right;
       follows = h.follows;
       doubt = h.doubt refl;
+      staying = h.staying;
       answers = h.answers refl;
       stands = h.stands;
       plans = h.plans refl;

@@ -6,7 +6,7 @@ pub returns-clause-holds : goal.returns-clause-holds
 returns-clause-holds c = λ shown line some h.
     let m = c.args.self.now in
     let new = c.drop_first.new.nodes.items in
-    let t = taken_back shown line m.line.items new m.back c.drop_first.result
+    let t = taken_back shown line m.line.items new m.back c.drop_first.result c.args.stays
     c.drop_first.ensures.rest c.drop_first.ensures.halves some h.back h.kept h.shown_line in
     let less = c.saturating_sub-self.ensures in
     let same : slice_get (steps m.line.items) m.back ≡ slice_get (steps new)

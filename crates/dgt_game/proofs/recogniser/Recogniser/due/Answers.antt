@@ -1,6 +1,6 @@
 use Rattle.{std.{proofs.Common.{rules, true, ◌≡◌, ◌<◌, ap, inr, sym, refl, arith, None, Some, ◌∙◌}, specs.Prelude.{IfSome}}, dgt_game.specs.declared.recogniser.Recogniser.{Recogniser}}
 use Rattle.dgt_game.{specs.{Planning.{IsPlanned, todo}, Timing.{Due, HasTask, next_time}}, proofs.Planning.{hopeless_stays, nothing_left, planned_quiet, planned_then, plans_with, todo_most}}
-use Rattle.dgt_game.proofs.{Finding.{shown_then}, Timing.{acts_with, follows_then, idle_in_doubt, idle_stays, no_time, one_more, quiet_now, told_now}, recogniser.Recogniser.due.Goals.{then-done-lt2}}
+use Rattle.dgt_game.proofs.{Finding.{shown_then}, Timing.{acts_with, follows_then, idle_in_doubt, idle_stays, marks_of, no_time, one_more, quiet_now, told_now}, recogniser.Recogniser.due.Goals.{then-done-lt2}}
 use Rattle.dgt_game.proofs.recogniser.Recogniser.due.Goals.{else-done-lt2}
 use Rattle.dgt_game.proofs.recogniser.Recogniser.due.Goals as goal
 
@@ -61,6 +61,7 @@ loop-done-preserved c =
       act.right,
       act.follows,
       λ plans. act.next (c.in_ok-at.ensures.fits plans),
+      act.staying,
     ) in
     let has : HasTask now quiet = search rules in
     record {
@@ -263,3 +264,29 @@ pub returns-clause-there : goal.returns-clause-there
 returns-clause-there c = λ shown line knows plans h waits.
     c.report-2.ensures.there (c.loop-done.invariant.stands shown line knows plans h)
     (c.loop-done.invariant.waits waits).0
+
+pub returns-in-Some-clause-marks : goal.returns-in-Some-clause-marks
+returns-in-Some-clause-marks c =
+    let event = c.in-Some.event in
+    let new = c.report.new.self in
+    marks_of c.args.now c.args.self.now new (Some event) (c.loop-done.invariant.due (Some event) new
+    (told_now c.args.now c.loop-done.self new event c.in-Some.ensures.tells))
+
+pub returns-in_err-at-clause-marks : goal.returns-in_err-at-clause-marks
+returns-in_err-at-clause-marks c =
+    marks_of c.args.now c.args.self.now c.report.new.self c.from_residual.result
+    (returns-in_err-at-clause-due c)
+
+pub returns-then-at-now-clause-marks : goal.returns-then-at-now-clause-marks
+returns-then-at-now-clause-marks c =
+    let new = c.report.new.self in
+    let later : IfSome (next_time new) (λ at. c.args.now < at) = search rules in
+    marks_of c.args.now c.args.self.now new None (c.loop-done.invariant.due None new
+    (quiet_now c.args.now c.loop-done.self new c.in_default.ensures.tells later))
+
+pub returns-clause-marks : goal.returns-clause-marks
+returns-clause-marks c =
+    let new = c.report-2.new.self in
+    let due : Due c.args.now c.loop-done.self c.report-2.result new = search rules in
+    marks_of c.args.now c.args.self.now new c.report-2.result
+    (c.loop-done.invariant.due c.report-2.result new due)

@@ -28,4 +28,5 @@ returns-clause-keeps c =
       refl,
       refl,
       refl,
+      refl,
     )

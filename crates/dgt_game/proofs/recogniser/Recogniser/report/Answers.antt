@@ -14,6 +14,7 @@ returns-clause-tells c =
       λ quiet. absurd (none-some event (sym (ensures.idle quiet).0)),
       λ none. absurd (none-some event (sym none)),
       ensures.coming,
+      ensures.notes,
     )
 
 pub returns-clause-planned : goal.returns-clause-planned
