@@ -96,7 +96,7 @@ impl Recogniser {
     ghost use Rattle.dgt_game.specs.Memory.{Holds, IsTold, Reads, steps, told_of};
     ghost use Rattle.dgt_game.specs.Finding.{IsFound};
     ghost use Rattle.dgt_game.specs.Planning.{AddsNone, IsLifted, IsPlanned, HasKing, IsLostOr, PlacesOr, WhyHopeless};
-    ghost use Rattle.dgt_game.specs.Reading.{HasLine, IsExplained, HasRoom, IsLive, IsRoomFor, ReadsView, FollowsSeen, IsKnown, IsRead};
+    ghost use Rattle.dgt_game.specs.Reading.{HasLine, IsExplained, IsRepeated, RepeatsInPlace, TakesFewBack, HasRoom, IsLive, IsRoomFor, ReadsView, FollowsSeen, IsKnown, IsRead};
     ghost use Rattle.dgt_game.specs.Recogniser.{GoesOn, Knows, Sees, last_state, new_recogniser, picture_of, pictured};
     ghost use Rattle.dgt_game.specs.Reading.{ReadsView, Shows};
     ghost use Rattle.dgt_game.specs.Settling.{HasGoneBack, IsAnswered, IsUnexplained, RemembersDoubt, StandsAnew};
@@ -104,7 +104,7 @@ impl Recogniser {
     ghost use Rattle.dgt_game.specs.Sure.{FollowsSure, IsMarked, KeepsSure, KnowsSure, MarksStart, SeesSure, WereSure};
     ghost use Rattle.dgt_game.specs.Timing.{IsIdle};
     ghost use Rattle.dgt_game.specs.Told.{WasShown, told_pieces};
-    ghost use Rattle.dgt_game.specs.Waiting.{Follows, IsQuiet, Keeps, LostWaits, Waits, has_notice, has_result, is_lost, is_sure_sight, last_of};
+    ghost use Rattle.dgt_game.specs.Waiting.{FindsLine, Follows, IsQuiet, Keeps, LostWaits, Waits, has_notice, has_result, is_lost, is_sure_sight, last_of};
 
     /// A recogniser that has seen nothing.
     pub fn new() -> Self
@@ -170,6 +170,7 @@ impl Recogniser {
             → self.new.view ≡ Some view → self.new.view ≢ self.old.view
             → FollowsSeen self.old.memory (pieces_of view.shown)
             → self.new.here ≢ Place.Nowhere }
+        ensures repeated { RepeatsInPlace self.old → RepeatsInPlace self.new }
         ensures sight { IsOk result → SeesSure self.old observation.now.sight self.new }
         ensures running { IsOk result → self.new.running ≡ observation.now.running }
         ensures sure_since { self.old.is_sure ≡ true → self.new.sure_since ≡ self.old.sure_since }
@@ -223,6 +224,7 @@ impl Recogniser {
         ensures hopeless { WhyHopeless self.new }
         ensures found { IsFound self.new }
         ensures reads { IsExplained self.new }
+        ensures repeated { RepeatsInPlace self.new }
         ensures sure { KnowsSure (told_pieces (record {
           state = state;
           halves = 0;
@@ -303,6 +305,8 @@ impl Recogniser {
             → IfSome view (λ view. Contains shown (pieces_of view.shown))
             → Holds shown line self.old.memory → Knows shown line self.new }
         ensures ended { self.new.ended ≡ self.old.ended }
+        ensures loss { FindsLine self.old self.new }
+        ensures repeated { RepeatsInPlace self.new }
         ensures lost { has_notice self.old.lost ≡ false → LostWaits self.new }
         ensures follows { Follows self.old None self.new }
         ensures doubt { self.old.is_sure ≡ false → IsQuiet self.old → IsQuiet self.new }
@@ -355,6 +359,9 @@ impl Recogniser {
             → Holds shown line self.old.memory → Holds shown line self.new.memory }
         ensures view { self.new.view ≡ self.old.view }
         ensures keeps { Keeps self.old self.new }
+        ensures loss { FindsLine self.old self.new }
+        ensures repeated { IsLive self.old → IsRepeated self.old.memory view.now
+            → TakesFewBack self.old.memory (Reading.At self.new.here) }
         ensures answers { IsOpen self.old.memory → IsAnswered self.new.memory }
         ensures doubt { self.old.is_sure ≡ false → IsQuiet self.old → IsQuiet self.new }
         ensures stands { IsOpen self.old.memory → self.old.view ≡ Some view.now → Stands self.new }
@@ -398,6 +405,8 @@ impl Recogniser {
             → IsRead result }
         ensures seen { FollowsSeen self.now.memory (pieces_of view.now.shown) → has_white ≡ true
             → has_black ≡ true → IsRead result }
+        ensures repeated { IsLive self.now → IsRepeated self.now.memory view.now
+            → TakesFewBack self.now.memory result }
         ensures room { HasRoom self.now.memory result }
         ensures begins { MarksStart result }
         ensures none { has_white ≡ false → has_black ≡ false
@@ -419,6 +428,9 @@ impl Recogniser {
             → Holds shown line self.old.memory → Holds shown line self.new.memory }
         ensures view { self.new.view ≡ self.old.view }
         ensures keeps { Keeps self.old self.new }
+        ensures loss { FindsLine self.old self.new }
+        ensures there { (k : ℕ) → 1 ≤ k → self.new.here ≡ Place.Line k
+            → reading ≡ Reading.At (Place.Line k) }
         ensures answers { IsOpen self.old.memory → IsAnswered self.new.memory }
         ensures doubt { self.old.is_sure ≡ false → IsQuiet self.old → IsQuiet self.new }
         ensures stands { (view : View) → IsOpen self.old.memory → self.old.view ≡ Some view
@@ -465,6 +477,8 @@ impl Recogniser {
             → Holds shown line self.old.memory → Holds shown line self.new.memory }
         ensures view { self.new.view ≡ self.old.view }
         ensures keeps { Keeps self.old self.new }
+        ensures loss { FindsLine self.old self.new }
+        ensures there { self.new.here ≡ Place.Line k }
         ensures answers { IsOpen self.old.memory → IsAnswered self.new.memory }
         ensures doubt { self.old.is_sure ≡ false → IsQuiet self.old → IsQuiet self.new }
         ensures stands { (view : View) → IsOpen self.old.memory → self.old.view ≡ Some view
@@ -521,6 +535,8 @@ impl Recogniser {
             → Holds shown line self.old.memory → Holds shown line self.new.memory }
         ensures view { self.new.view ≡ self.old.view }
         ensures keeps { Keeps self.old self.new }
+        ensures loss { FindsLine self.old self.new }
+        ensures there { self.new.here ≡ place }
         ensures answers { IsOpen self.old.memory → IsAnswered self.new.memory }
         ensures doubt { self.old.is_sure ≡ false → IsQuiet self.old → IsQuiet self.new }
         ensures stands { (view : View) → IsOpen self.old.memory → self.old.view ≡ Some view
@@ -558,6 +574,8 @@ impl Recogniser {
             → Holds shown line self.old.memory → Holds shown line self.new.memory }
         ensures view { self.new.view ≡ self.old.view }
         ensures keeps { Keeps self.old self.new }
+        ensures loss { FindsLine self.old self.new }
+        ensures last { (k : ℕ) → self.new.here ≡ Place.Line k → k ≡ 0 }
         ensures answers { IsOpen self.old.memory → IsAnswered self.new.memory }
         ensures doubt { self.old.is_sure ≡ false → IsQuiet self.old → IsQuiet self.new }
         ensures stands { (view : View) → IsOpen self.old.memory → self.old.view ≡ Some view
@@ -606,6 +624,8 @@ impl Recogniser {
             → Holds shown line self.old.memory → Holds shown line self.new.memory }
         ensures view { self.new.view ≡ self.old.view }
         ensures keeps { Keeps self.old self.new }
+        ensures loss { FindsLine self.old self.new }
+        ensures last { (k : ℕ) → self.new.here ≡ Place.Line k → k ≡ 0 }
         ensures answers { IsOpen self.old.memory → IsAnswered self.new.memory }
         ensures doubt { self.old.is_sure ≡ false → IsQuiet self.old → IsQuiet self.new }
         ensures stands { (view : View) → IsOpen self.old.memory → self.old.view ≡ Some view
@@ -641,6 +661,8 @@ impl Recogniser {
             → Holds shown line self.old.memory → Holds shown line self.new.memory }
         ensures view { self.new.view ≡ self.old.view }
         ensures keeps { Keeps self.old self.new }
+        ensures loss { FindsLine self.old self.new }
+        ensures last { (k : ℕ) → self.new.here ≡ Place.Line k → k ≡ 0 }
         ensures answers { IsOpen self.old.memory → IsAnswered self.new.memory }
         ensures doubt { self.old.is_sure ≡ false → IsQuiet self.old → IsQuiet self.new }
         ensures stands { (view : View) → IsOpen self.old.memory → self.old.view ≡ Some view
