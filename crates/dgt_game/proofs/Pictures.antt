@@ -4,8 +4,8 @@ use Rattle.std.{specs.Prelude.{[], slice_get}, proofs.{lemmas.{Option.{slice_get
 use Rattle.{dgt_values.specs.{declared.pieces.Piece.{Piece}, Board.{pieces_of}}, dgt_chess.specs.declared.{state.{Move.{Move}, State.{State}}, pieces.{Colour.{Colour}, Man.{Man}}}}
 use Rattle.{dgt_chess.specs.{Attacks.{piece_at, piece_of}, Possible.{HasKings, HasOneKing}, Rules.{board}}, dgt_game.specs.declared.{memory.Memory.{Memory}, node.{Node.{Node}, Place.{Place}}}}
 use Rattle.dgt_game.specs.{declared.{node.{Returned.{Returned}, Step.{Step}}, reading.Reading.{Reading}, recogniser.{Over.{Over}, Recogniser.{Recogniser}}, view.View.{View}}, Lines.{LeadsTo, NoLine}}
-use Rattle.dgt_game.specs.{Lines.{IsLine}, Told.{as_shown}, Memory.{steps}, Reading.{HasLine, HasLineFrom, IsExplained, IsLive, IsNear, ReadsView, ShowsAt, SomeLine, EarlierAreKnown}}
-use Rattle.dgt_game.{specs.{Reading.{ElseStartIsKnown, FollowsSeen, IsKnown, IsRead, MovesAreKnown, ShowsEarlier, StartIsKnown, TwoAreKnown}, Waiting.{last_of}}, proofs.Chains.{get_step}}
+use Rattle.dgt_game.specs.{Lines.{IsLine}, Told.{as_shown}, Memory.{steps}, Reading.{HasLine, HasLineFrom, IsExplained, IsLive, IsNear, IsRepeated, RepeatsInPlace, RepetitionIsRead, TakesFewBack, ReadsView, ShowsAt, SomeLine, EarlierAreKnown}}
+use Rattle.dgt_game.{specs.{Reading.{ElseStartIsKnown, FollowsSeen, IsKnown, IsRead, MovesAreKnown, ShowsEarlier, StartIsKnown, TwoAreKnown}, Waiting.{last_of}}, proofs.Chains.{get_step, same_some}}
 use Rattle.dgt_game.proofs.Links.{turned_back}
 use Rattle.std.proofs.Common.{subst}
 use Rattle.dgt_game.specs.Reading.{LiveForTen, MayGoOn, SeenIsFollowed, TwoToFourAreSome}
@@ -141,7 +141,7 @@ since_of self = self.since
 abbrev pub returned_of : Recogniser → Returned
 returned_of self = self.returned
 
-live_same : (old new : Recogniser) → new.memory.line ≡ old.memory.line
+pub live_same : (old new : Recogniser) → new.memory.line ≡ old.memory.line
     → over_of new ≡ over_of old → since_of new ≡ since_of old → IsLive old → IsLive new
 live_same old new line over since (some, may) = search rules
 
@@ -197,6 +197,44 @@ explains old new view is line over since placed stands = rw is (λ known. elim p
   | inr returned ↦ stands (known_same new old view (sym line) (sym over) (sym since)
       (sym returned) known)
 ])
+
+line_at : (old new : Memory) (k : ℕ) (step : Step) → new.line ≡ old.line
+    → slice_get (steps old.line.items) k ≡ Some step
+    → slice_get (steps new.line.items) k ≡ Some step
+line_at old new k step same at = cc
+
+-- the same is repeated if the line stays
+repeated_same : (old new : Memory) (view : View) → new.line ≡ old.line → IsRepeated old view
+    → IsRepeated new view
+repeated_same old new view same ((k, two, (step, at, shows)), other, (before, was, line)) = (
+  (k, two, (step, line_at old new k step same at, shows)),
+  λ (step, at, shows). other (step, line_at new old 1 step (sym same) at, shows),
+  (before, line_at old new 1 before same was, line),
+)
+
+pub few_same : (old new : Memory) (reading : Reading) → new.line ≡ old.line
+    → TakesFewBack old reading → TakesFewBack new reading
+few_same old new reading same few k three is =
+    let (j, less, quick) = few k three is in (j, less, rw same quick)
+
+-- if the line stays, and few half-moves are taken back once the picture was looked at
+pub repeats : (old new : Recogniser) (view : View) → new.view ≡ Some view
+    → new.memory.line ≡ old.memory.line → over_of new ≡ over_of old → since_of new ≡ since_of old
+    → (IsLive old → IsRepeated old.memory view
+    → TakesFewBack old.memory (Reading.At new.here)) → RepeatsInPlace new
+repeats old new view is line over since few = rw is (λ live repeated.
+    few_same old.memory new.memory (Reading.At new.here) line
+    (few (live_same new old (sym line) (sym over) (sym since) live)
+    (repeated_same new.memory old.memory view (sym line) repeated)))
+
+-- it is read as no state of the line
+pub few_back : (self : Memory) (reading : Reading)
+    → ((k : ℕ) → reading ≢ Reading.At (Place.Line k)) → TakesFewBack self reading
+few_back self reading none k three is = absurd (none k is)
+
+pub at_line : (place : Place) (k : ℕ) → Reading.At place ≡ Reading.At (Place.Line k)
+    → place ≡ Place.Line k
+at_line place k same = cc
 
 pub read_or_not : (reading : Reading) → IsRead reading ⊎ (reading ≡ Reading.At Place.Nowhere)
 read_or_not reading = search rules
@@ -286,6 +324,23 @@ pub seen_is_followed : SeenIsFollowed
 seen_is_followed self k node one new picture is known move same =
     let line : IsLine node.step.state (one ∷ []) new = (new, move, refl) in
     (k, node, is, known, (one ∷ [], refl, leads node.step.state (one ∷ []) new _ line same))
+
+pub repetition_is_read : RepetitionIsRead
+repetition_is_read self view before step k one new at move same differs two there shows =
+    let line : IsLine before.state (one ∷ []) new = (new, move, refl) in (
+      (k, two, (step, there, shows)),
+      λ (other, is, shown). differs (rw (same_some _ before other at is) shown),
+      (
+        before,
+        at,
+        (
+          one ∷ [],
+          refl,
+          leads before.state (one ∷ []) new _ line (turned_to before.is_turned (board new)
+              (pieces_of view.shown) same),
+        ),
+      ),
+    )
 
 pub two_to_four : TwoToFourAreSome
 two_to_four self step moves new picture last line same long =

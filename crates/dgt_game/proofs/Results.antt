@@ -1,6 +1,6 @@
 -- What results and lost lines mean.
 use Rattle.std.{proofs.Common.{rules, ◌≡◌, ◌∙◌, ◌++◌, sym, arith, ℕ, Bool, true, false, List, [], ◌∷◌, Option, Some, None, refl, zero, suc}, specs.Prelude.{Contains}}
-use Rattle.dgt_game.specs.{declared.{event.{Event.{Event}, GameResult.{GameResult}}, recogniser.Recogniser.{Recogniser}}, Waiting.{CallsFollowOn, FollowOn, IsRight, RightIfAway, RunsInTurn}}
+use Rattle.dgt_game.specs.{declared.{event.{Event.{Event}, GameResult.{GameResult}}, recogniser.Recogniser.{Recogniser}}, Waiting.{CallsFollowOn, FollowOn, IsRight, ResultIsFound, RightIfAway, RunsInTurn}}
 use Rattle.dgt_game.specs.{Waiting.{events_in, has_result, is_lost}, Results.{AreLost, HasResults, LostInTurn, NotFound, NotLost, OneByKings, OneByRules, OneOther, OneResult, Stay}}
 use Rattle.dgt_chess.specs.declared.state.State.{State}
 use Rattle.std.proofs.Common.{inl, inr, ◌<◌, ◌+◌, ◌-◌, ◌/◌, ◌%◌, subst}
@@ -95,6 +95,35 @@ runs_in_turn-from (Some event ∷ reports) old new h =
 
 pub runs_in_turn : RunsInTurn
 runs_in_turn old new reports h = runs_in_turn-from reports old new h
+
+-- a line that is lost stays so until it is found
+stays_lost_through : (events : List Event) (was now : Bool) → was ≡ true → NotFound events
+    → AreLost was events now → now ≡ true
+stays_lost_through [] was now e none h = h ∙ e
+stays_lost_through (Event.Found ∷ events) was now e none h = absurd none
+stays_lost_through (Event.Lost squares ∷ events) was now e none h =
+    let free = h.1.0 in let wrong : ⊥ = cc in absurd wrong
+stays_lost_through (Event.Begun state is_turned ∷ events) was now e none h =
+    stays_lost_through events h.0 now (h.1 ∙ e) none h.2
+stays_lost_through (Event.Back count ∷ events) was now e none h =
+    stays_lost_through events h.0 now (h.1 ∙ e) none h.2
+stays_lost_through (Event.Ended result ∷ events) was now e none h =
+    stays_lost_through events h.0 now (h.1 ∙ e) none h.2
+stays_lost_through (Event.Made one ∷ events) was now e none h =
+    stays_lost_through events h.0 now (h.1 ∙ e) none h.2
+stays_lost_through (Event.Unseen moves ∷ events) was now e none h =
+    stays_lost_through events h.0 now (h.1 ∙ e) none h.2
+stays_lost_through (Event.Gap state count ∷ events) was now e none h =
+    stays_lost_through events h.0 now (h.1 ∙ e) none h.2
+
+pub result_is_found : ResultIsFound
+result_is_found old mid new reports squares result first ends right none =
+    let run = (runs_in_turn-from reports first.0 mid first.2).1 in
+    let lost : is_lost mid.lost ≡ true =
+    stays_lost_through (events_in reports) _ _ first.1.1.1 none run in
+    let after : is_lost new.lost ≡ is_lost mid.lost = ends.1 in
+    let free = right.3 in
+    let wrong : ⊥ = cc in wrong
 
 pub right_if_away : RightIfAway
 unfolding Rattle.dgt_game.specs.Waiting.Show Rattle.dgt_game.specs.Waiting.Differs

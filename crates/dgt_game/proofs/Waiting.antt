@@ -7,7 +7,7 @@ use Rattle.std.{proofs.Common.{rules, ◌≡◌, ◌≢◌, ◌+◌, ◌-◌, �
 use Rattle.{std.{specs.{Prelude.{IfSome}, Option.{option_or}}, proofs.lemmas.Option.{none-some}}, dgt_values.specs.declared.pieces.Piece.{Piece}, dgt_chess.specs.Attacks.{piece_at}}
 use Rattle.dgt_game.specs.declared.{event.{GameResult.{GameResult}, Event.{Event}}, memory.Memory.{Memory}, recogniser.{Over.{Over}, Lost.{Lost}}, node.{Node.{Node}, Step.{Step}}}
 use Rattle.dgt_game.specs.{declared.{recogniser.Recogniser.{Recogniser}, view.View.{View}}, Memory.{steps, tip}, Results.{ByRules, FitsAt}, Waiting.{EndsBy, IsOfLine, IsRight, LostBy, Show, coming}}
-use Rattle.dgt_game.specs.Waiting.{has_notice, has_result, last_of}
+use Rattle.dgt_game.specs.Waiting.{has_notice, has_result, is_lost, last_of, stays_lost}
 
 pub right_of_line : (self : Recogniser) (event : Event) → IsOfLine event → IsRight self event
 right_of_line self event h = search rules
@@ -16,6 +16,11 @@ right_of_line self event h = search rules
 pub silent : (lost : Lost) (view : Option View) (last : Option Step) → has_notice lost ≡ false
     → LostBy lost view last
 silent lost view last e = search rules
+
+-- a line that isn't lost then, and of which nothing waits, isn't lost
+pub found_before : (lost : Lost) → has_notice lost ≡ false → stays_lost lost ≡ false
+    → is_lost lost ≡ false
+found_before lost silent found = search rules
 
 -- the line without its last state
 pub dropped : (nodes new : List Node) (back : ℕ) → ((first : Node) (rest : List Node)

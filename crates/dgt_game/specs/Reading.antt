@@ -1,5 +1,5 @@
 -- What a picture is read as.
-use Rattle.std.specs.Prelude.{◌≡◌, ◌≢◌, ◌<◌, ◌≤◌, ◌↔◌, ◌⊎◌, ◌+◌, ◌-◌, ◌^◌, ⊤, ℕ, Bool, min, List, [], Some, IfSome, length, map, slice_get}
+use Rattle.std.specs.Prelude.{◌≡◌, ◌≢◌, ◌<◌, ◌≤◌, ◌↔◌, ◌⊎◌, ◌+◌, ◌-◌, ◌^◌, ⊤, ℕ, Bool, true, min, List, [], Some, IfSome, MatchOption, length, map, slice_get}
 use Rattle.dgt_values.specs.declared.pieces.Piece.{Piece}
 use Rattle.dgt_values.specs.Board.{pieces_of}
 use Rattle.dgt_chess.specs.declared.pieces.Colour.{Colour}
@@ -130,6 +130,31 @@ IsReplaced self picture =
     ((k : ℕ) × (1 ≤ k) × (k ≤ 4) × HasLine 1 self (Place.Line k) picture)
     ⊎ ((k : ℕ) × (1 ≤ k) × (k ≤ 2) × HasLine 2 self (Place.Line k) picture)
 
+-- The picture is that of a state two half-moves or more before the line's last one, and what another
+-- half-move in place of the last one leads to.
+abbrev pub IsRepeated : Memory → View → Type 0
+IsRepeated self view =
+    ((k : ℕ) × (2 ≤ k) × ShowsAt self view (Place.Line k))
+    × ¬ (ShowsAt self view (Place.Line 1))
+    × HasLine 1 self (Place.Line 1) (pieces_of view.shown)
+
+-- one of so many last half-moves was faster than hands
+abbrev pub WasQuick : Memory → ℕ → Type 0
+WasQuick self count =
+    (k : ℕ) × (k < count) × MatchOption (slice_get self.line.items k) ⊥ (λ node.
+    node.is_quick ≡ true)
+
+-- it is read as three half-moves or more taken back only if one of them was faster than hands
+abbrev pub TakesFewBack : Memory → Reading → Type 0
+TakesFewBack self reading =
+    (k : ℕ) → 3 ≤ k → reading ≡ Reading.At (Place.Line k) → WasQuick self k
+
+-- the same of where the board stands, if what it shows is a repetition
+abbrev pub RepeatsInPlace : Recogniser → Type 0
+RepeatsInPlace self =
+    IfSome self.view (λ view. IsLive self → IsRepeated self.memory view
+    → TakesFewBack self.memory (Reading.At self.here))
+
 -- such a picture has a place
 abbrev pub IsExplained : Recogniser → Type 0
 IsExplained self = IfSome self.view (λ view. IsKnown self view → self.here ≢ Place.Nowhere)
@@ -224,6 +249,18 @@ ManHasMoved =
     ⊎ ((piece_at picture square ≡ Piece.Empty)
     × (piece_at (board state) square ≡ piece_of colour man))
     → HasMoved picture state colour
+
+-- **A repetition** is a legal move from the state before the last one to a state that was reported
+-- before these.
+abbrev pub RepetitionIsRead : Type 0
+RepetitionIsRead =
+    (self : Memory) (view : View) (before step : Step) (k : ℕ) (one : Move) (new : State)
+    → slice_get (steps self.line.items) 1 ≡ Some before → IsMove before.state one new
+    → as_shown before.is_turned (board new) ≡ pieces_of view.shown
+    → as_shown before.is_turned (board before.state) ≢ pieces_of view.shown → 2 ≤ k
+    → slice_get (steps self.line.items) k ≡ Some step
+    → as_shown step.is_turned (board step.state) ≡ pieces_of view.shown
+    → IsRepeated self view
 
 -- Two, three or four legal half-moves from the line's last state are several.
 abbrev pub TwoToFourAreSome : Type 0

@@ -13,7 +13,7 @@ use Rattle.dgt_game.specs.declared.recogniser.Over.{Over}
 use Rattle.dgt_game.specs.declared.recogniser.Recogniser.{Recogniser}
 use Rattle.dgt_game.specs.declared.view.View.{View}
 use Rattle.dgt_game.specs.Memory.{IsTold, steps, tip}
-use Rattle.dgt_game.specs.Results.{AreLost, ByKings, ByRules, HasResult, HasResults, IsLost}
+use Rattle.dgt_game.specs.Results.{AreLost, ByKings, ByRules, HasResult, HasResults, IsLost, NotFound}
 use Rattle.dgt_game.specs.Told.{as_shown}
 
 -- the line's last state, and the last one once all that waits is reported
@@ -54,29 +54,43 @@ LostBy lost view last = ⊤
 abbrev pub LostWaits : Recogniser → Type 0
 LostWaits self = LostBy self.lost self.view (last_of self.memory)
 
--- what waits is right
-abbrev pub Waits : Recogniser → Type 0
-Waits self = EndWaits self × LostWaits self
-
--- what an event reports is right, with the line and the board as they are after it
-abbrev pub IsRight : Recogniser → Event → Type 0
-IsRight self (Event.Ended result) =
-    (step : Step) × (last_of self.memory ≡ Some step)
-    × (ByRules step.state result ⊎ Show self.view step result)
-IsRight self (Event.Lost squares) = Differs self.view (last_of self.memory) squares
-IsRight self event = ⊤
-
--- a result was reported, and that the line was lost
-abbrev pub has_result : Over → Bool
-has_result Over.No = false
-has_result (Over.Rules since) = true
-has_result Over.Kings = true
-
+-- that the line was lost was reported
 abbrev pub is_lost : Lost → Bool
 is_lost Lost.No = false
 is_lost (Lost.Now squares) = false
 is_lost Lost.Reported = true
 is_lost Lost.Found = true
+
+-- the line is lost once that is reported which waits of it
+abbrev pub stays_lost : Lost → Bool
+stays_lost Lost.No = false
+stays_lost (Lost.Now squares) = true
+stays_lost Lost.Reported = true
+stays_lost Lost.Found = false
+
+-- a line of which half-moves or a result wait isn't lost then
+abbrev pub LossEnds : Recogniser → Type 0
+LossEnds self =
+    (IsTold self.memory × (self.ended ≡ None)) ⊎ (stays_lost self.lost ≡ false)
+
+-- what waits is right
+abbrev pub Waits : Recogniser → Type 0
+Waits self = EndWaits self × LostWaits self × LossEnds self
+
+-- what an event reports is right, with the line and the board as they are after it: a result is of
+-- a line that isn't lost
+abbrev pub IsRight : Recogniser → Event → Type 0
+IsRight self (Event.Ended result) =
+    (step : Step) × (last_of self.memory ≡ Some step)
+    × (ByRules step.state result ⊎ Show self.view step result) × (is_lost self.lost ≡ false)
+IsRight self (Event.Lost squares) = Differs self.view (last_of self.memory) squares
+IsRight self event = ⊤
+
+-- a result was reported
+abbrev pub has_result : Over → Bool
+has_result Over.No = false
+has_result (Over.Rules since) = true
+has_result Over.Kings = true
 
 -- an event follows what was reported before
 abbrev pub Follows : Recogniser → Option Event → Recogniser → Type 0
@@ -123,6 +137,14 @@ RunsInTurn =
     → HasResults (has_result old.over) (events_in reports) (has_result new.over)
     × AreLost (is_lost old.lost) (events_in reports) (is_lost new.lost)
 
+-- Between a loss and a result, the line is found.
+abbrev pub ResultIsFound : Type 0
+ResultIsFound =
+    (old mid new : Recogniser) (reports : List (Option Event)) (squares : ℕ) (result : GameResult)
+    → FollowOn old (Some (Event.Lost squares) ∷ reports) mid
+    → Follows mid (Some (Event.Ended result)) new → IsRight new (Event.Ended result)
+    → ¬ (NotFound (events_in reports))
+
 -- While the board is away, only a result by the rules is right, and no line is lost.
 abbrev pub RightIfAway : Type 0
 RightIfAway =
@@ -147,6 +169,10 @@ Keeps self new =
     × (new.since ≡ self.since) × (new.is_sure ≡ self.is_sure)
     × (new.sure_since ≡ self.sure_since) × (new.changed ≡ self.changed)
     × (new.staying ≡ self.staying)
+
+-- half-moves of a line wait only once it isn't lost any more
+abbrev pub FindsLine : Recogniser → Recogniser → Type 0
+FindsLine self new = IsTold self.memory → IsTold new.memory ⊎ (stays_lost new.lost ≡ false)
 
 -- an event of the line
 abbrev pub IsOfLine : Event → Type 0

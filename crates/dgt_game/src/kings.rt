@@ -24,7 +24,7 @@ impl Recogniser {
     ghost use Rattle.dgt_game.specs.Sure.{WasSure, WereSure};
     ghost use Rattle.dgt_game.specs.Finding.{FindsLater};
     ghost use Rattle.dgt_game.specs.Planning.{AddsNone, todo, IsLostOr, WhyHopeless};
-    ghost use Rattle.dgt_game.specs.Waiting.{BothKingsMean, Follows, IsQuiet, Keeps, Waits, coming};
+    ghost use Rattle.dgt_game.specs.Waiting.{BothKingsMean, Follows, IsQuiet, Keeps, Waits, coming, stays_lost};
 
     /// Looks whether both kings were lifted since the line's last state, and stand on squares that
     /// give a result, while everything else stands as in a known state.
@@ -133,6 +133,7 @@ impl Recogniser {
             → self.old.memory.back ≡ 0 → self.old.memory.unsaid.items ≡ []
             → Holds shown line self.old.memory → Holds shown line self.new.memory }
         ensures keeps { Keeps self.old self.new }
+        ensures found { stays_lost self.new.lost ≡ false }
         ensures told { (step : Step)
             → self.old.memory.back ≡ 0 → self.old.memory.unsaid.items ≡ []
             → step_at (steps self.old.memory.line.items) (steps self.old.memory.seen.items) place
@@ -150,6 +151,7 @@ impl Recogniser {
             → WereSure sure self.new.memory self.new.returned }
     {
         if place == Place::Line(0) {
+            self.find();
             self.memory.forget_seen();
             self.is_set_up = false;
             return true;

@@ -9,7 +9,7 @@ ghost use Rattle.dgt_game.specs.Filed.{AllIsFile, AskedStays, AsksAreLegal, Corr
 ghost use Rattle.dgt_game.specs.Finding.{IsFound, MovedIsSearched, SearchIsDue, WhatFollowsIsFound};
 ghost use Rattle.dgt_game.specs.Laws.{BackIsCounted, JoinedIsOne, LegalIsJoined, NoneAndOne, OneIsShown, OneLine, OthersAreHeld, SeveralAreShown, ShownIsHeld, StartIsShown, UnseenIsOnly};
 ghost use Rattle.dgt_game.specs.Planning.{ElseMayBegin, InTurnIsNotRefused, IsLostOr, IsPlanned, LiftedIsGone, LostIsReported, NothingFits, OneFits, PossibleIsHopeful, WhyHopeless};
-ghost use Rattle.dgt_game.specs.Reading.{EarlierAreKnown, ElseStartIsKnown, IsExplained, LiveForTen, LiveHasBegun, ManHasMoved, MovesAreKnown, SeenIsFollowed, StartIsKnown, TwoAreKnown, TwoToFourAreSome};
+ghost use Rattle.dgt_game.specs.Reading.{EarlierAreKnown, ElseStartIsKnown, IsExplained, LiveForTen, LiveHasBegun, ManHasMoved, MovesAreKnown, RepeatsInPlace, RepetitionIsRead, SeenIsFollowed, StartIsKnown, TwoAreKnown, TwoToFourAreSome};
 ghost use Rattle.dgt_game.specs.declared.node.{Place.{Place}, Step.{Step}};
 ghost use Rattle.dgt_game.specs.Memory.{step_at, steps};
 ghost use Rattle.dgt_game.specs.Recogniser.{Knows, new_recogniser};
@@ -20,7 +20,7 @@ ghost use Rattle.dgt_game.specs.Standing.{HasRested, OnlyShownIsReported, RestIs
 ghost use Rattle.dgt_game.specs.Sure.{KnowsSure};
 ghost use Rattle.dgt_game.specs.Timing.{Calls, Due, DueEnds, DueIsRight, IsIdle, IsNext, NoCallMatters, with_report};
 ghost use Rattle.dgt_game.specs.Told.{Told};
-ghost use Rattle.dgt_game.specs.Waiting.{CallsFollowOn, IsQuiet, RightIfAway, RunsInTurn, Waits};
+ghost use Rattle.dgt_game.specs.Waiting.{CallsFollowOn, IsQuiet, ResultIsFound, RightIfAway, RunsInTurn, Waits};
 
 use crate::event::GAP;
 use crate::times::{
@@ -95,6 +95,7 @@ pub fn what_results_say()
     ensures once { OneResult }
     ensures lost { LostInTurn }
     ensures away { RightIfAway }
+    ensures found { ResultIsFound }
     ensures stay { (events : List Event) → ((count : ℕ) (stays : Bool)
         → ¬ (Contains events (Event.Back count stays)))
         → ((state : State) (is_turned : Bool) → ¬ (Contains events (Event.Begun state is_turned)))
@@ -171,6 +172,7 @@ pub fn no_call_matters()
 /// Which pictures are known.
 pub fn what_is_known()
     ensures first { IsExplained new_recogniser }
+    ensures repeated { RepeatsInPlace new_recogniser }
     ensures moves { MovesAreKnown }
     ensures two { TwoAreKnown }
     ensures earlier { EarlierAreKnown }
@@ -227,6 +229,7 @@ pub fn what_has_moved()
     ensures searched { MovedIsSearched }
     ensures several { TwoToFourAreSome }
     ensures seen { SeenIsFollowed }
+    ensures repeated { RepetitionIsRead }
     ensures lifted { LiftedIsGone }
 {}
 

@@ -41,7 +41,7 @@ pub(crate) enum Reading {
 
 impl Recogniser {
     ghost use Rattle.dgt_game.specs.Memory.{Fits, FitsBy, GoesOnBy, Holds, Links, Reads, step_at, steps};
-    ghost use Rattle.dgt_game.specs.Reading.{HasLine, HasLineFrom, HasRoom, IsLive, IsNear, IsRead, IsRoomFor, ReadsView, Shows, ShowsAt, SomeLine, FollowsSeen, IsReplaced, ShowsEarlier, ShowsStart};
+    ghost use Rattle.dgt_game.specs.Reading.{HasLine, HasLineFrom, HasRoom, IsLive, IsNear, IsRead, IsRepeated, IsRoomFor, TakesFewBack, WasQuick, ReadsView, Shows, ShowsAt, SomeLine, FollowsSeen, IsReplaced, ShowsEarlier, ShowsStart};
     ghost use Rattle.dgt_game.specs.Sure.{MarksStart};
     ghost use Rattle.dgt_game.specs.Waiting.{last_of};
 
@@ -63,6 +63,8 @@ impl Recogniser {
             → IsReplaced self.now.memory (pieces_of view.now.shown) → IsRead result }
         ensures last { self.now.over ≡ Over.No → ShowsAt self.now.memory view.now (Place.Line 0)
             → result ≡ Reading.At (Place.Line 0) }
+        ensures repeated { IsLive self.now → IsRepeated self.now.memory view.now
+            → TakesFewBack self.now.memory result }
         ensures room { HasRoom self.now.memory result }
         ensures begins { MarksStart result }
     {
@@ -74,6 +76,9 @@ impl Recogniser {
         }
         if let Some(reading) = self.read_start(view) {
             return reading;
+        }
+        if let Some(node) = self.read_repeated(view) {
+            return self.known(node);
         }
         if let Some(k) = self.read_earlier(view) {
             return Reading::At(Place::Line(k));
@@ -96,6 +101,8 @@ impl Recogniser {
         ensures at { IfSome result (λ place. ShowsAt self.now.memory view.now place) }
         ensures last { self.now.over ≡ Over.No → ShowsAt self.now.memory view.now (Place.Line 0)
             → result ≡ Some (Place.Line 0) }
+        ensures quick { (k : ℕ) → 3 ≤ k → result ≡ Some (Place.Line k)
+            → WasQuick self.now.memory k }
     {
         let last = self.memory.line.get(0)?;
         let may_begin = last.step.state.position() == State::start().position();
@@ -127,6 +134,20 @@ impl Recogniser {
         false
     }
 
+    // Another half-move instead of the last one, if it repeats an earlier state: the same hand puts
+    // its piece elsewhere. Otherwise several half-moves would be taken back at once.
+    fn read_repeated(&self, view: &View) -> Option<Node>
+        ensures linked { IfSome result
+            (λ node. Fits self.now.memory (pieces_of view.now.shown) node) }
+        ensures room { IfSome result (IsRoomFor self.now.memory) }
+        ensures reads { IsLive self.now → IsRepeated self.now.memory view.now → IsSome result }
+    {
+        if self.earlier(view)? < 2 {
+            return None;
+        }
+        self.made(Place::Line(1), view)
+    }
+
     // An earlier state of the line. If it is far back, and something wasn't shown meanwhile, it is
     // rather another game that has begun in the same way.
     fn read_earlier(&self, view: &View) -> Option<usize>
@@ -151,6 +172,7 @@ impl Recogniser {
         ensures last { (k : ℕ) → IsLive self.now → 1 ≤ k
             → ShowsAt self.now.memory view.now (Place.Line k)
             → MatchOption result ⊥ (λ j. j ≤ k) }
+        ensures first { IfSome result (λ k. 1 ≤ k) }
     {
         if !self.is_live() {
             return None;
@@ -179,6 +201,8 @@ impl Recogniser {
         ensures seen { FollowsSeen self.now.memory (pieces_of view.now.shown)
             → IsSome result }
         ensures begins { IfSome result MarksStart }
+        ensures line { IfSome result
+            (λ reading. (k : ℕ) → reading ≢ Reading.At (Place.Line k)) }
     {
         if self.returned.count > 0 && self.is_live() {
             if let Some(node) = self.made(Place::Line(self.returned.count), view) {
@@ -200,6 +224,7 @@ impl Recogniser {
         ensures room { IsRoomFor self.now.memory node → HasRoom self.now.memory result }
         ensures near { IsNear result }
         ensures begins { MarksStart result }
+        ensures line { (k : ℕ) → result ≢ Reading.At (Place.Line k) }
     {
         dgt_values::laws::equal_is_same();
         for k in 0..self.memory.seen.len() {
@@ -238,6 +263,7 @@ impl Recogniser {
         ensures at { ReadsView self.now.memory view.now result }
         ensures room { HasRoom self.now.memory result }
         ensures begins { MarksStart result }
+        ensures line { (k : ℕ) → result ≢ Reading.At (Place.Line k) }
     {
         match self.read_held(view) {
             Some(node) => Reading::Held(node),
@@ -411,6 +437,7 @@ impl Recogniser {
         ensures near { IfSome result IsNear }
         ensures reads { ShowsStart view.now → IsSome result }
         ensures begins { IfSome result MarksStart }
+        ensures line { (k : ℕ) → result ≡ Some (Reading.At (Place.Line k)) → k ≤ 2 }
     {
         dgt_chess::laws::one_start();
         let start = State::start();

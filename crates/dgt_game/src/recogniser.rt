@@ -99,7 +99,7 @@ impl Recogniser {
     ghost use Rattle.dgt_game.specs.Memory.{Holds, IsTold, Reads, steps, told_of};
     ghost use Rattle.dgt_game.specs.Finding.{IsFound};
     ghost use Rattle.dgt_game.specs.Planning.{AddsNone, IsLifted, IsPlanned, HasKing, IsLostOr, PlacesOr, WhyHopeless};
-    ghost use Rattle.dgt_game.specs.Reading.{HasLine, IsExplained, HasRoom, IsLive, IsRoomFor, ReadsView, FollowsSeen, IsKnown, IsRead};
+    ghost use Rattle.dgt_game.specs.Reading.{HasLine, IsExplained, IsRepeated, RepeatsInPlace, TakesFewBack, HasRoom, IsLive, IsRoomFor, ReadsView, FollowsSeen, IsKnown, IsRead};
     ghost use Rattle.dgt_game.specs.Recogniser.{GoesOn, Knows, Sees, last_state, new_recogniser, picture_of, pictured};
     ghost use Rattle.dgt_game.specs.Reading.{ReadsView, Shows};
     ghost use Rattle.dgt_game.specs.Settling.{HasGoneBack, IsAnswered, IsUnexplained, RemembersDoubt, StandsAnew};
@@ -109,7 +109,7 @@ impl Recogniser {
     ghost use Rattle.dgt_game.specs.Sure.{FollowsSure, IsMarked, KeepsSure, KnowsSure, MarksStart, SeesSure, WereSure};
     ghost use Rattle.dgt_game.specs.Timing.{IsIdle};
     ghost use Rattle.dgt_game.specs.Told.{WasShown, told_pieces};
-    ghost use Rattle.dgt_game.specs.Waiting.{Follows, IsQuiet, Keeps, LostWaits, Waits, has_notice, has_result, is_lost, is_sure_sight, last_of};
+    ghost use Rattle.dgt_game.specs.Waiting.{FindsLine, Follows, IsQuiet, Keeps, LostWaits, Waits, has_notice, has_result, is_lost, is_sure_sight, last_of};
 
     /// A recogniser that has seen nothing.
     pub fn new() -> Self
@@ -176,6 +176,7 @@ impl Recogniser {
             → self.new.view ≡ Some view → self.new.view ≢ self.old.view
             → FollowsSeen self.old.memory (pieces_of view.shown)
             → self.new.here ≢ Place.Nowhere }
+        ensures repeated { RepeatsInPlace self.old → RepeatsInPlace self.new }
         ensures sight { IsOk result → SeesSure self.old observation.now.sight self.new }
         ensures running { IsOk result → self.new.running ≡ observation.now.running }
         ensures sure_since { self.old.is_sure ≡ true → self.new.sure_since ≡ self.old.sure_since }
@@ -230,6 +231,7 @@ impl Recogniser {
         ensures hopeless { WhyHopeless self.new }
         ensures found { IsFound self.new }
         ensures reads { IsExplained self.new }
+        ensures repeated { RepeatsInPlace self.new }
         ensures sure { KnowsSure (told_pieces (record {
           state = state;
           halves = 0;
@@ -312,6 +314,8 @@ impl Recogniser {
             → IfSome view (λ view. Contains shown (pieces_of view.shown))
             → Holds shown line self.old.memory → Knows shown line self.new }
         ensures ended { self.new.ended ≡ self.old.ended }
+        ensures loss { FindsLine self.old self.new }
+        ensures repeated { RepeatsInPlace self.new }
         ensures lost { has_notice self.old.lost ≡ false → LostWaits self.new }
         ensures follows { Follows self.old None self.new }
         ensures doubt { self.old.is_sure ≡ false → IsQuiet self.old → IsQuiet self.new }
@@ -365,6 +369,9 @@ impl Recogniser {
             → Holds shown line self.old.memory → Holds shown line self.new.memory }
         ensures view { self.new.view ≡ self.old.view }
         ensures keeps { Keeps self.old self.new }
+        ensures loss { FindsLine self.old self.new }
+        ensures repeated { IsLive self.old → IsRepeated self.old.memory view.now
+            → TakesFewBack self.old.memory (Reading.At self.new.here) }
         ensures answers { IsOpen self.old.memory → IsAnswered self.new.memory }
         ensures doubt { self.old.is_sure ≡ false → IsQuiet self.old → IsQuiet self.new }
         ensures stands { IsOpen self.old.memory → self.old.view ≡ Some view.now → Stands self.new }
@@ -408,6 +415,8 @@ impl Recogniser {
             → IsRead result }
         ensures seen { FollowsSeen self.now.memory (pieces_of view.now.shown) → has_white ≡ true
             → has_black ≡ true → IsRead result }
+        ensures repeated { IsLive self.now → IsRepeated self.now.memory view.now
+            → TakesFewBack self.now.memory result }
         ensures room { HasRoom self.now.memory result }
         ensures begins { MarksStart result }
         ensures none { has_white ≡ false → has_black ≡ false
@@ -429,6 +438,9 @@ impl Recogniser {
             → Holds shown line self.old.memory → Holds shown line self.new.memory }
         ensures view { self.new.view ≡ self.old.view }
         ensures keeps { Keeps self.old self.new }
+        ensures loss { FindsLine self.old self.new }
+        ensures there { (k : ℕ) → 1 ≤ k → self.new.here ≡ Place.Line k
+            → reading ≡ Reading.At (Place.Line k) }
         ensures answers { IsOpen self.old.memory → IsAnswered self.new.memory }
         ensures doubt { self.old.is_sure ≡ false → IsQuiet self.old → IsQuiet self.new }
         ensures stands { (view : View) → IsOpen self.old.memory → self.old.view ≡ Some view
@@ -475,6 +487,8 @@ impl Recogniser {
             → Holds shown line self.old.memory → Holds shown line self.new.memory }
         ensures view { self.new.view ≡ self.old.view }
         ensures keeps { Keeps self.old self.new }
+        ensures loss { FindsLine self.old self.new }
+        ensures there { self.new.here ≡ Place.Line k }
         ensures answers { IsOpen self.old.memory → IsAnswered self.new.memory }
         ensures doubt { self.old.is_sure ≡ false → IsQuiet self.old → IsQuiet self.new }
         ensures stands { (view : View) → IsOpen self.old.memory → self.old.view ≡ Some view
@@ -531,6 +545,8 @@ impl Recogniser {
             → Holds shown line self.old.memory → Holds shown line self.new.memory }
         ensures view { self.new.view ≡ self.old.view }
         ensures keeps { Keeps self.old self.new }
+        ensures loss { FindsLine self.old self.new }
+        ensures there { self.new.here ≡ place }
         ensures answers { IsOpen self.old.memory → IsAnswered self.new.memory }
         ensures doubt { self.old.is_sure ≡ false → IsQuiet self.old → IsQuiet self.new }
         ensures stands { (view : View) → IsOpen self.old.memory → self.old.view ≡ Some view
@@ -568,6 +584,8 @@ impl Recogniser {
             → Holds shown line self.old.memory → Holds shown line self.new.memory }
         ensures view { self.new.view ≡ self.old.view }
         ensures keeps { Keeps self.old self.new }
+        ensures loss { FindsLine self.old self.new }
+        ensures last { (k : ℕ) → self.new.here ≡ Place.Line k → k ≡ 0 }
         ensures answers { IsOpen self.old.memory → IsAnswered self.new.memory }
         ensures doubt { self.old.is_sure ≡ false → IsQuiet self.old → IsQuiet self.new }
         ensures stands { (view : View) → IsOpen self.old.memory → self.old.view ≡ Some view
@@ -616,6 +634,8 @@ impl Recogniser {
             → Holds shown line self.old.memory → Holds shown line self.new.memory }
         ensures view { self.new.view ≡ self.old.view }
         ensures keeps { Keeps self.old self.new }
+        ensures loss { FindsLine self.old self.new }
+        ensures last { (k : ℕ) → self.new.here ≡ Place.Line k → k ≡ 0 }
         ensures answers { IsOpen self.old.memory → IsAnswered self.new.memory }
         ensures doubt { self.old.is_sure ≡ false → IsQuiet self.old → IsQuiet self.new }
         ensures stands { (view : View) → IsOpen self.old.memory → self.old.view ≡ Some view
@@ -651,6 +671,8 @@ impl Recogniser {
             → Holds shown line self.old.memory → Holds shown line self.new.memory }
         ensures view { self.new.view ≡ self.old.view }
         ensures keeps { Keeps self.old self.new }
+        ensures loss { FindsLine self.old self.new }
+        ensures last { (k : ℕ) → self.new.here ≡ Place.Line k → k ≡ 0 }
         ensures answers { IsOpen self.old.memory → IsAnswered self.new.memory }
         ensures doubt { self.old.is_sure ≡ false → IsQuiet self.old → IsQuiet self.new }
         ensures stands { (view : View) → IsOpen self.old.memory → self.old.view ≡ Some view

@@ -36,7 +36,7 @@ impl Recogniser {
     ghost use Rattle.dgt_game.specs.Planning.{TaskFits, AddsNone, IsAsBefore, IsAtLast, CannotBegin, CannotMove, EndsSearch, IsLostOr, LosesLine, PlacesOr, WhyHopeless};
     ghost use Rattle.dgt_game.specs.Sure.{IsMarked, KeepsSure, MarksStart, ShowsSure, WereSure};
     ghost use Rattle.dgt_game.specs.Told.{WasShown};
-    ghost use Rattle.dgt_game.specs.Waiting.{Keeps, IsQuiet, last_of};
+    ghost use Rattle.dgt_game.specs.Waiting.{FindsLine, Keeps, IsQuiet, last_of};
 
     /// Looks for several half-moves, also from the start of another game. If there are none, the
     /// line is lost.
@@ -47,6 +47,7 @@ impl Recogniser {
             → Holds shown line self.old.memory → Holds shown line self.new.memory }
         ensures view { self.new.view ≡ self.old.view }
         ensures keeps { Keeps self.old self.new }
+        ensures loss { FindsLine self.old self.new }
         ensures stands { IsRooted (length (steps self.old.memory.line.items))
             (steps self.old.memory.seen.items) → IsTold self.old.memory
             → self.old.is_sure ≡ true → Stands self.old → Stands self.new }
@@ -82,6 +83,7 @@ impl Recogniser {
             → Holds shown line self.old.memory → Holds shown line self.new.memory }
         ensures view { self.new.view ≡ self.old.view }
         ensures keeps { Keeps self.old self.new }
+        ensures loss { FindsLine self.old self.new }
         ensures stands { (view : View) → IsOpen self.old.memory → self.old.view ≡ Some view
             → ReadsView self.old.memory view (Reading.New node) → Stands self.new }
         ensures todo { AddsNone self.old self.new }
@@ -274,6 +276,7 @@ impl Recogniser {
             → Holds shown line self.old.memory → Holds shown line self.new.memory }
         ensures view { self.new.view ≡ self.old.view }
         ensures keeps { Keeps self.old self.new }
+        ensures loss { FindsLine self.old self.new }
         ensures stands { IsOpen self.old.memory → self.old.view ≡ Some view.now → Stands self.old
             → Stands self.new }
         ensures todo { AddsNone self.old self.new }
@@ -361,6 +364,7 @@ impl Recogniser {
             → Holds shown line self.old.memory → Holds shown line self.new.memory }
         ensures view { self.new.view ≡ self.old.view }
         ensures keeps { Keeps self.old self.new }
+        ensures loss { FindsLine self.old self.new }
         ensures stands { IsRooted (length (steps self.old.memory.line.items))
             (steps self.old.memory.seen.items) → IsTold self.old.memory
             → self.old.is_sure ≡ true → TaskFits self.old Task.Begin → Stands self.old

@@ -25,7 +25,7 @@ impl Recogniser {
     ghost use Rattle.dgt_game.specs.Standing.{EndsHere, IsAtAnswer, IsCalledFor, IsMeant, IsOpen, IsThere, Stands, TakesBack};
     ghost use Rattle.dgt_game.specs.Sure.{IsMarked, KeepsSure, StaysSure, WasSure, WereSure};
     ghost use Rattle.dgt_game.specs.Timing.{next_time};
-    ghost use Rattle.dgt_game.specs.Waiting.{EndWaits, EndsBy, EndsByRules, Follows, IsOfLine, IsQuiet, IsRight, Keeps, MustEnd, Waits, coming, has_notice, has_result, last_of};
+    ghost use Rattle.dgt_game.specs.Waiting.{EndWaits, EndsBy, EndsByRules, Follows, IsOfLine, IsQuiet, IsRight, Keeps, MustEnd, Waits, coming, has_notice, has_result, last_of, stays_lost};
     ghost use Rattle.dgt_game.specs.Memory.{Holds, IsRooted, IsSeen, IsTold, Links, step_at, told_of};
     ghost use Rattle.dgt_game.specs.Recogniser.{Knows, Reports, Stays};
 
@@ -45,6 +45,7 @@ impl Recogniser {
             → Holds shown line self.old.memory → Holds shown line self.new.memory }
         ensures view { self.new.view ≡ self.old.view }
         ensures keeps { Keeps self.old self.new }
+        ensures found { stays_lost self.new.lost ≡ false }
         ensures told { (step : Step)
             → self.old.memory.back ≡ 0 → self.old.memory.unsaid.items ≡ []
             → step_at (steps self.old.memory.line.items) (steps self.old.memory.seen.items) place
@@ -177,7 +178,7 @@ impl Recogniser {
     // The result of the line's last state, if another line begins next.
     fn end_before_next(&mut self) -> Option<Event>
         ensures told { Reports self.old result self.new }
-        ensures right { Waits self.old
+        ensures right { has_notice self.old.lost ≡ false → Waits self.old
             → Waits self.new × IfSome result (λ event. IsRight self.new event) }
         ensures follows { Follows self.old result self.new }
         ensures none { result ≡ None → self.new ≡ self.old }
@@ -247,6 +248,7 @@ impl Recogniser {
         ensures here { self.new.here ≡ self.old.here }
         ensures returned { self.new.returned ≡ self.old.returned }
         ensures found { self.new.lost ≢ Lost.Reported }
+        ensures ends { stays_lost self.new.lost ≡ false }
         ensures only { self.new ≡ record self.old { lost = self.new.lost } }
     {
         match self.lost {

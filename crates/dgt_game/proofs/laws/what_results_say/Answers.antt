@@ -1,4 +1,4 @@
-use Rattle.dgt_game.proofs.Results.{lost_in_turn, one_by_kings, one_by_rules, not_found, not_lost, one_other, one_result, right_if_away, stays}
+use Rattle.dgt_game.proofs.Results.{lost_in_turn, one_by_kings, one_by_rules, not_found, not_lost, one_other, one_result, result_is_found, right_if_away, stays}
 use Rattle.dgt_game.proofs.laws.what_results_say.Goals as goal
 
 pub returns-clause-rules : goal.returns-clause-rules
@@ -18,6 +18,9 @@ returns-clause-lost c = lost_in_turn
 
 pub returns-clause-away : goal.returns-clause-away
 returns-clause-away c = right_if_away
+
+pub returns-clause-found : goal.returns-clause-found
+returns-clause-found c = result_is_found
 
 pub returns-clause-stay : goal.returns-clause-stay
 returns-clause-stay c = stays

@@ -12,6 +12,10 @@ returns-clause-holds c = λ shown line back unsaid reads holds.
     )
     (c.push.ensures.holds shown line back unsaid reads.0 reads.1 holds)
 
+pub returns-clause-sure : goal.returns-clause-sure
+returns-clause-sure c = λ sure mark shown h.
+    c.add.ensures.sure sure shown (c.push.ensures.sure sure c.args.self.now.returned mark h)
+
 pub returns-clause-keeps : goal.returns-clause-keeps
 returns-clause-keeps c = search (rules, c.push.ensures.line)
 

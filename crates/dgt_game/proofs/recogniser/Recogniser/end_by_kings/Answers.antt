@@ -15,6 +15,7 @@ returns-then-is_there-clause-right c = λ quiet waits.
         (c.in-Some.view, keeps.0 ∙ c.in-Some.is, by),
       ),
       keeps.4 waits.1,
+      inr end.found,
     )
 
 pub returns-then-is_there-clause-todo : goal.returns-then-is_there-clause-todo

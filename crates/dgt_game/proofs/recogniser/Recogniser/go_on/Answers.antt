@@ -1,4 +1,4 @@
-use Rattle.{std.proofs.Common.{◌≡◌, refl, ap, None}, dgt_game.{specs.declared.recogniser.{Lost.{Lost}, Recogniser.{Recogniser}}, proofs.{Known.{goes_on}, Sure.{goes_on_sure}}}}
+use Rattle.{std.proofs.Common.{◌≡◌, inr, refl, ap, None}, dgt_game.{specs.declared.recogniser.{Lost.{Lost}, Recogniser.{Recogniser}}, proofs.{Known.{goes_on}, Sure.{goes_on_sure}}}}
 use Rattle.dgt_game.proofs.recogniser.Recogniser.go_on.Goals as goal
 
 pub returns-clause-on : goal.returns-clause-on
@@ -10,7 +10,7 @@ pub returns-clause-right : goal.returns-clause-right
 returns-clause-right c =
     let none : c.new.result.ended ≡ None = ap (λ (r : Recogniser). r.ended) c.new.ensures in
     let never : c.new.result.lost ≡ Lost.No = ap (λ (r : Recogniser). r.lost) c.new.ensures in
-    (rw none tt, rw never tt)
+    (rw none tt, rw never tt, inr (rw never refl))
 
 pub returns-clause-sure : goal.returns-clause-sure
 returns-clause-sure c =

@@ -1,7 +1,7 @@
 use Rattle.{std.{proofs.Common.{◌≡◌, ◌∙◌, ◌<◌, inl, inr, Bool, [], length, ap, refl, subst, sym, true}, specs.Prelude.{◌≢◌, Contains}}, dgt_values.specs.Board.{pieces_of}}
 use Rattle.dgt_game.{specs.{declared.{memory.Memory.{Memory}, node.Place.{Place}}, Memory.{Holds, Reads}, Reading.{IsRead}}, proofs.{Known.{memory_of, view_of}, Pictures.{SomeState, king_seen}}}
-use Rattle.dgt_game.proofs.{Pictures.{over_of, since_of, known_same, read_or_not, returned_of, seen_state, state_of}, recogniser.Recogniser.look.Goals.{then-has_white+then-has_black, After-take}}
-use Rattle.{std.proofs.Common.{rules}, dgt_game.{specs.declared.recogniser.Recogniser.{Recogniser}, proofs.Waiting.{not_found}}}
+use Rattle.dgt_game.proofs.{Pictures.{at_line, few_same, live_same, over_of, since_of, known_same, read_or_not, returned_of, seen_state, state_of}, recogniser.Recogniser.look.Goals.{then-has_white+then-has_black, After-take}}
+use Rattle.{std.proofs.Common.{rules, arith}, dgt_game.{specs.declared.recogniser.Recogniser.{Recogniser}, proofs.Waiting.{not_found}}}
 use Rattle.{dgt_game.proofs.{recogniser.Recogniser.look.Goals.{else-has_white}, Sure.{sure_of}}, dgt_chess.specs.declared.pieces.Colour.{Colour}}
 use Rattle.dgt_game.proofs.recogniser.Recogniser.look.Goals as goal
 
@@ -55,6 +55,17 @@ returns-clause-reads c = λ few known.
     let (white, black) = kings_seen c (state_of old view known) in
     taken c few (c.read_by_kings-reading.ensures.reads (known_same old c.if-has_white.self view
     (ap (λ (m : Memory). m.line) memory) over since returned known) white black)
+
+pub returns-clause-repeated : goal.returns-clause-repeated
+returns-clause-repeated c = λ live repeated k three here.
+    let old = c.args.self.now in
+    let mid = c.if-has_white.self in
+    let reading = c.read_by_kings-reading.result in
+    let (memory, _, over, since, returned, _) = kept c in
+    let few = c.read_by_kings-reading.ensures.repeated (live_same old mid
+    (ap (λ (m : Memory). m.line) memory) over since live) (rw memory repeated) in
+    few_same mid.memory old.memory reading (ap (λ (m : Memory). m.line) (sym memory)) few k three
+    (c.take.ensures.there k (omega (arith, three)) (at_line c.take.new.self.here k here))
 
 pub returns-clause-unread : goal.returns-clause-unread
 returns-clause-unread c = λ few. elim (read_or_not c.read_by_kings-reading.result) [

@@ -1,6 +1,6 @@
 use Rattle.std.{proofs.{Common.{rules, ◌≡◌, ◌∙◌, Some, false, inl, inr, refl, ap, sym}, lemmas.Option.{MatchOption-at_some, none-some}}, specs.Prelude.{⊤}}
-use Rattle.dgt_game.specs.{declared.{event.GameResult.{GameResult}, node.Step.{Step}, recogniser.{Lost.{Lost}, Over.{Over}}}, Waiting.{EndsBy, coming, has_notice, has_result}, Standing.{IsMeant}}
-use Rattle.dgt_game.proofs.{Finding.{found_later}, Standing.{back_moved, meant_moved, there_then}, Waiting.{ended_right, last_comes, right_of_line, silent}}
+use Rattle.dgt_game.specs.{declared.{event.GameResult.{GameResult}, node.Step.{Step}, recogniser.{Lost.{Lost}, Over.{Over}}}, Waiting.{EndsBy, coming, has_notice, has_result, stays_lost}, Standing.{IsMeant}}
+use Rattle.dgt_game.proofs.{Finding.{found_later}, Standing.{back_moved, meant_moved, there_then}, Waiting.{ended_right, found_before, last_comes, right_of_line, silent}}
 use Rattle.dgt_game.proofs.recogniser.Recogniser.next_event.Goals as goal
 
 pub returns-in-Some-next_event-clause-right : goal.returns-in-Some-next_event-clause-right
@@ -14,6 +14,11 @@ returns-in-Some-next_event-clause-right c = λ h.
       (
         c.follow_up.ensures.right (rw next.ensures.coming waits.0),
         silent new.lost _ _ quiet,
+        elim waits.2 [
+          | inl told ↦ absurd (none-some next.event (sym (c.next_event.ensures.still told.0)
+              ∙ next.is))
+          | inr found ↦ inr (ap (λ (l : Lost). stays_lost l) c.follow_up.ensures.lost ∙ found)
+        ],
       ),
       right_of_line new next.event next.ensures.of_line,
     )
@@ -33,11 +38,20 @@ returns-clause-right c = λ h.
     let none = c.in_default-next_event.ensures.none refl in
     let last = sym (last_comes new none.0 none.1) ∙ c.in_default-next_event.ensures.coming
     ∙ end.1 in (
-      (rw c.in_ok-result.ensures.after tt, silent self.lost _ _ c.in_default.ensures.quiet),
+      (
+        rw c.in_ok-result.ensures.after tt,
+        silent self.lost _ _ c.in_default.ensures.quiet,
+        inl (none, c.in_ok-result.ensures.after),
+      ),
       (
         end.0,
         last,
         (ended_right c.in_ok-result.over self.view end.0 c.in_ok-result.result end.2).1,
+        elim waits.2 [
+          | inl told ↦ absurd (none-some (c.in_ok-result.result, c.in_ok-result.over)
+              (sym told.1 ∙ was))
+          | inr found ↦ found_before self.lost c.in_default.ensures.quiet found
+        ],
       ),
     )
 

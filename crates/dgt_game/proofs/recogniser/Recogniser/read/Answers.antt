@@ -23,5 +23,14 @@ returns-in-Some-read_replaced-clause-linked c = λ shown line holds seen.
     reads shown c.args.self.now.memory (pieces_of c.args.view.now.shown)
     c.in-Some-read_replaced.node seen c.in-Some-read_replaced.ensures.linked
 
+pub returns-in-Some-read_repeated-clause-linked : goal.returns-in-Some-read_repeated-clause-linked
+returns-in-Some-read_repeated-clause-linked c = λ shown line holds seen.
+    c.known.ensures.linked shown (pieces_of c.args.view.now.shown) seen
+    c.in-Some-read_repeated.ensures.linked
+
+pub returns-in-Some-read_repeated-clause-at : goal.returns-in-Some-read_repeated-clause-at
+returns-in-Some-read_repeated-clause-at c =
+    c.known.ensures.at c.args.view.now c.in-Some-read_repeated.ensures.linked.1
+
 pub returns-clause-linked : goal.returns-clause-linked
 returns-clause-linked c = λ shown line holds seen. c.read_shadow.ensures.linked shown seen

@@ -1,7 +1,7 @@
 use Rattle.std.proofs.Common.{inr}
 use Rattle.dgt_game.specs.declared.recogniser.Recogniser.{Recogniser}
 use Rattle.{std.proofs.Common.{rules, ◌≡◌, ◌∙◌, inl, None, false, sym, ap, true}, dgt_values.specs.Board.{pieces_of}, dgt_game.specs.{declared.memory.Memory.{Memory}, Recogniser.{Knows, shown_after}}}
-use Rattle.dgt_game.specs.{declared.recogniser.Lost.{Lost}, Waiting.{Waits}}
+use Rattle.dgt_game.specs.{declared.recogniser.Lost.{Lost}, Memory.{IsTold}, Waiting.{Waits}}
 use Rattle.dgt_game.{proofs.{Known.{holds_more, knows_more, knows_same, memory_of, same_side, view_of, within_after}, Waiting.{ended_of, lost_of}}}
 use Rattle.dgt_game.{specs.Waiting.{has_notice, is_sure_sight}, proofs.recogniser.Recogniser.see.Goals.{then-not-is_same_picture, then-not-self, else-not-self}}
 use Rattle.dgt_game.{proofs.{recogniser.Recogniser.see.Goals.{else-not-is_same_picture+else-is_sure-self, in-Sure, in_default}, Pictures.{returned_of}}, specs.Sure.{KnowsSure, sure_after}}
@@ -54,10 +54,24 @@ returns-clause-right c = λ waits.
           ap (λ (l : Lost). has_notice l) (same_lost ∙ w.leave.ensures.lost) ∙ quiet.1 in
           let none : w.show.new.self.ended ≡ None =
           w.show.ensures.ended ∙ same_ended ∙ w.leave.ensures.keeps.2 ∙ quiet.2 in
-          rw w.self-is (rw none tt, w.show.ensures.lost silent)
+          let same : memory_of w.if-not-self.self ≡ w.leave.new.self.memory =
+          elim w.if-not-self.branch [
+            | then-not-self w' ↦ ap memory_of w'.self-is
+            | else-not-self w' ↦ ap memory_of w'.self-is
+          ] in
+          let told : IsTold w.if-not-self.self.memory = rw same
+          (w.leave.ensures.back ∙ quiet.0.0, w.leave.ensures.unsaid ∙ quiet.0.1) in
+          rw w.self-is (
+            rw none tt,
+            w.show.ensures.lost silent,
+            elim (w.show.ensures.loss told) [
+              | inl told ↦ inl (told, none)
+              | inr found ↦ inr found
+            ],
+          )
       | else-not-is_same_picture+else-is_sure-self w ↦ rw w.self-is waits
     ] in
-    (new.0, new.1)
+    (new.0, new.1, new.2)
 
 pub returns-clause-reads : goal.returns-clause-reads
 returns-clause-reads c = λ few explained.
@@ -70,6 +84,13 @@ returns-clause-reads c = λ few explained.
           ] in
           rw w.self-is (w.show.ensures.reads (rw same (w.leave.ensures.few few)))
       | else-not-is_same_picture+else-is_sure-self w ↦ rw w.self-is explained
+    ]
+
+pub returns-clause-repeated : goal.returns-clause-repeated
+returns-clause-repeated c = λ repeats.
+    elim c.if-not-is_same_picture.branch [
+      | then-not-is_same_picture w ↦ rw w.self-is w.show.ensures.repeated
+      | else-not-is_same_picture+else-is_sure-self w ↦ rw w.self-is repeats
     ]
 
 pub returns-clause-stands : goal.returns-clause-stands

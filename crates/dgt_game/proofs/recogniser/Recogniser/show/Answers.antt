@@ -1,4 +1,4 @@
-use Rattle.dgt_game.{proofs.{Chains.{same_some}, Known.{memory_of}, Pictures.{explains}}, specs.{declared.{memory.Memory.{Memory}, view.View.{View}}, Reading.{FollowsSeen}}}
+use Rattle.dgt_game.{proofs.{Chains.{same_some}, Known.{memory_of}, Pictures.{explains, repeats}}, specs.{declared.{memory.Memory.{Memory}, view.View.{View}}, Reading.{FollowsSeen}}}
 use Rattle.{dgt_game.proofs.recogniser.Recogniser.show.Goals.{After-look, in-Some-Some, in_default, in_default-2, then-not-is_same_picture, else-not-is_same_picture}, std.proofs.Common.{◌≡◌, ◌∙◌}}
 use Rattle.{std.proofs.Common.{◌<◌, length, ap, subst, sym}, dgt_values.specs.Board.{pieces_of}}
 use Rattle.dgt_game.proofs.recogniser.Recogniser.show.Goals as goal
@@ -15,6 +15,12 @@ same_memory c =
       | then-not-is_same_picture w ↦ ap memory_of w.self-is ∙ first
       | else-not-is_same_picture w ↦ ap memory_of w.self-is ∙ first
     ]
+
+pub returns-in-Some-clause-repeated : goal.returns-in-Some-clause-repeated
+returns-in-Some-clause-repeated c =
+    repeats c.if-not-is_same_picture.self c.look.new.self c.in-Some.view
+    (c.look.ensures.view ∙ c.in-Some.is) c.look.ensures.line c.look.ensures.keeps.1
+    c.look.ensures.keeps.5 c.look.ensures.repeated
 
 pub returns-in-Some-clause-reads : goal.returns-in-Some-clause-reads
 returns-in-Some-clause-reads c = λ few.
