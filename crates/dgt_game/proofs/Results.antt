@@ -105,7 +105,7 @@ stays_lost_through (Event.Lost squares ∷ events) was now e none h =
     let free = h.1.0 in let wrong : ⊥ = cc in absurd wrong
 stays_lost_through (Event.Begun state is_turned ∷ events) was now e none h =
     stays_lost_through events h.0 now (h.1 ∙ e) none h.2
-stays_lost_through (Event.Back count ∷ events) was now e none h =
+stays_lost_through (Event.Back count stays ∷ events) was now e none h =
     stays_lost_through events h.0 now (h.1 ∙ e) none h.2
 stays_lost_through (Event.Ended result ∷ events) was now e none h =
     stays_lost_through events h.0 now (h.1 ∙ e) none h.2
