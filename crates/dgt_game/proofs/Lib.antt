@@ -27,3 +27,4 @@ pub mod Finding
 pub mod Settling
 pub mod Sure
 pub mod Runs
+pub mod Explaining

@@ -14,6 +14,7 @@ pub mod Sure
 pub mod Runs
 pub mod Settling
 pub mod Finding
+pub mod Unseen
 -- Only for bodies.
 pub mod Ways
 pub mod Reach

@@ -46,6 +46,7 @@ mod resting;
 mod searching;
 mod telling;
 mod times;
+mod unseen;
 mod view;
 mod ways;
 

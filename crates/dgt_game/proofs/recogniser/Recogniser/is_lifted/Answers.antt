@@ -1,6 +1,6 @@
 use Rattle.dgt_game.{proofs.{Chains.{same_some}, Planning.{LacksOf, lacks_back, lacks_last, lacks_none, lacks_not}}, specs.{declared.node.{Node.{Node}, Step.{Step}}, Memory.{steps}}}
 use Rattle.{dgt_game.proofs.Planning.{lacks_seen, node_of, step_got}, std.proofs.Common.{rules, arith, ◌≡◌}}
-use Rattle.std.proofs.{Common.{List, Some, below_more, length, slice_get, slice_index_or, refl, sym, ap, subst}, lemmas.Option.{slice_get_within}}
+use Rattle.std.proofs.{Common.{Some, below_more, length, slice_get, slice_index_or, refl, sym, subst}, lemmas.Option.{slice_get_within}}
 use Rattle.dgt_game.specs.Planning.{IsLifted}
 use Rattle.dgt_game.proofs.recogniser.Recogniser.is_lifted.Goals.{then-is_line_lifted-via-then-is_line_lifted, then-is_line_lifted-via-else-is_line_lifted+then-is_line_lifted-2}
 use Rattle.dgt_game.proofs.recogniser.Recogniser.is_lifted.Goals as goal

@@ -1,4 +1,4 @@
-use Rattle.std.proofs.Common.{rules, ◌≡◌, inr, true}
+use Rattle.std.proofs.Common.{rules, inr}
 use Rattle.dgt_game.proofs.Waiting.{some_end}
 use Rattle.dgt_game.proofs.recogniser.Recogniser.look_at_kings.Goals as goal
 
