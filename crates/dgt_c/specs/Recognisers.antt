@@ -13,7 +13,7 @@ use Rattle.dgt_game.specs.Finding.{IsFound}
 use Rattle.dgt_game.specs.Planning.{IsLostOr, IsPlanned, WhyHopeless}
 use Rattle.dgt_game.specs.Reading.{FollowsSeen, IsExplained}
 use Rattle.dgt_game.specs.Recogniser.{GoesOn, Knows, Reports, Sees, picture_of, pictured}
-use Rattle.dgt_game.specs.Settling.{IsAnswered}
+use Rattle.dgt_game.specs.Settling.{GoesAstray, IsAnswered}
 use Rattle.dgt_game.specs.Standing.{IsThere, Stands}
 use Rattle.dgt_game.specs.declared.staying.TheConstants.{NONE_STAYS}
 use Rattle.dgt_game.specs.Staying.{after_step}
@@ -38,6 +38,9 @@ pub record HasSeen (old : Recogniser) (seen : Observation) (new : Recogniser) : 
   pub behind : (old.is_behind ≡ true)
       ⊎ ((old.is_sure ≡ true) × (is_sure_sight seen.sight ≡ false))
       → (new.is_behind ≡ true) ⊎ ((new.is_sure ≡ true) × (new.here ≡ Place.Line 0))
+  pub astray : (old.is_astray ≡ true)
+      ⊎ ((pictured new.view ≢ pictured old.view) × GoesAstray seen.at old)
+      → (new.is_astray ≡ true) ⊎ ((new.is_sure ≡ true) × (new.here ≡ Place.Line 0))
   -- what it knows
   pub line : Sees old seen.sight new
   pub sure_line : SeesSure old seen.sight new

@@ -28,3 +28,4 @@ pub mod Settling
 pub mod Sure
 pub mod Runs
 pub mod Filing
+pub mod Explaining

@@ -2,7 +2,8 @@
 use Rattle.std.proofs.{Common.{rules, ◌≡◌, ◌≤◌, ◌∙◌, refl, sym, ap, arith, inl, inr, ℕ, zero, suc, length, Bool, List, [], ◌∷◌, Option, Some, slice_get}, lemmas.Grind.{common_steps}}
 use Rattle.{std.{specs.Prelude.{Contains, IfSome, ◌≢◌, ◌⊎◌}, proofs.lemmas.List.{reverse-reverse}}, dgt_values.specs.declared.pieces.Piece.{Piece}, dgt_chess.specs.declared.state.State.{State}}
 use Rattle.{dgt_chess.specs.{Rules.{IsStart, board}, declared.state.Move.{Move}}, dgt_game.specs.declared.{node.{Node.{Node}, Step.{Step}, Way.{Way}, Place.{Place}}, reading.Reading.{Reading}}}
-use Rattle.dgt_game.specs.{declared.{memory.Memory.{Memory}, ways.Ways.{Ways}}, Lines.{IsLine, moves_of}, Ways.{AreWays}, Told.{Told, IsShown, Joins, WasShown, as_shown, told_pieces}, Memory.{By}}
+use Rattle.dgt_game.specs.{declared.{memory.Memory.{Memory}, ways.Ways.{Ways}}, Lines.{IsLine, moves_of}, Ways.{AreWays}, Told.{Told, IsHeld, IsShown, Joins, WasShown, as_shown, told_pieces}, Memory.{By}}
+use Rattle.dgt_game.specs.Results.{EndsShown}
 use Rattle.dgt_game.specs.Memory.{Fits, Holds, AreLast, IsRoot, IsSeen, Links, Reads, halves_of, step_at, steps, told_of}
 
 pub turned_back : (turned : Bool) (pieces shown : List Piece) → pieces ≡ as_shown turned shown
@@ -74,6 +75,20 @@ pub starts : (shown : List (List Piece)) (step : Step) → step.way ≡ Way.Begu
     → IsStart step.state → IsSeen shown step
 unfolding WasShown
 starts shown step begun start = inr (inr (ap halves_of begun, start))
+
+-- a half-move that is shown but for pieces in hands
+pub hands_shown : (shown : List (List Piece)) (step : Step) (picture : List Piece)
+    → halves_of step.way ≡ 1 → Contains shown picture
+    → IsHeld (as_shown step.is_turned picture) step.state → IsSeen shown step
+unfolding WasShown
+hands_shown shown step picture one seen held = inr (inl (one, (picture, seen, inl held)))
+
+-- a half-move that is shown with a result by kings
+pub ends_shown : (shown : List (List Piece)) (step : Step) (picture : List Piece)
+    → halves_of step.way ≡ 1 → Contains shown picture
+    → EndsShown (as_shown step.is_turned picture) step.state → IsSeen shown step
+unfolding WasShown
+ends_shown shown step picture one seen ends = inr (inl (one, (picture, seen, inr ends)))
 
 -- what several half-moves led to was shown
 pub arrived : (shown : List (List Piece)) (step : Step) → 2 ≤ halves_of step.way

@@ -1,8 +1,8 @@
 -- What lines, events and pictures mean, in other words.
-use Rattle.std.{proofs.Common.{rules, ◌≡◌, ◌∙◌, ◌≤◌, refl, sym, ap, subst, arith, zero, suc, length, length-append, List, [], ◌∷◌, ◌++◌, Option}, specs.Prelude.{⊤, Contains, MatchOption}}
+use Rattle.std.{proofs.Common.{rules, ◌≡◌, ◌∙◌, ◌≤◌, refl, sym, ap, inl, inr, subst, arith, zero, suc, length, length-append, List, [], ◌∷◌, ◌++◌, Option}, specs.Prelude.{⊤, Contains, MatchOption}}
 use Rattle.{dgt_values.specs.declared.pieces.Piece.{Piece}, dgt_chess.specs.{declared.state.{Move.{Move}, State.{State}}, Rules.{board}}, dgt_game.specs.{declared.event.Event.{Event}, Lines.{IsLine}}}
 use Rattle.dgt_game.specs.{Lines.{IsMove, IsOnly, LeadsTo, moves_of}, Told.{IsLegalTold, Joins, Leads, Told, WasShown, told_pieces}, Laws.{AreJoined, BackIsCounted, JoinedIsOne, LegalIsJoined}}
-use Rattle.dgt_game.{specs.Laws.{NoneAndOne, OneIsShown, OneLine, OthersAreHeld, SeveralAreShown, ShownIsHeld, StartIsShown, UnseenIsOnly, first_of}, proofs.{Links.{turned_back}, Same.{one_next}}}
+use Rattle.dgt_game.{specs.Laws.{EndIsShown, NoneAndOne, OneIsShown, OneLine, OthersAreHeld, SeveralAreShown, ShownIsHeld, StartIsShown, UnseenIsOnly, first_of}, proofs.{Links.{turned_back}, Same.{one_next}}}
 
 rest_joined : (told : Told) (line : List Told) → AreJoined (told ∷ line) → AreJoined line
 rest_joined told [] h = tt
@@ -106,6 +106,11 @@ several_are_shown shown (first ∷ line) (suc n) told h e some =
 pub one_is_shown : OneIsShown
 unfolding WasShown
 one_is_shown shown told h one = search (rules, turned_back)
+
+pub end_is_shown : EndIsShown
+unfolding WasShown
+end_is_shown shown told picture result one seen kings explains =
+    inr (inl (one, (picture, seen, inr (result, kings, explains))))
 
 pub others_are_held : OthersAreHeld
 others_are_held picture state k h small none = search rules

@@ -3,9 +3,10 @@ use Rattle.std.{proofs.Common.{rules, ◌≡◌, ◌∙◌, ◌++◌, sym, arith
 use Rattle.dgt_game.specs.{declared.{event.{Event.{Event}, GameResult.{GameResult}}, recogniser.Recogniser.{Recogniser}}, Waiting.{CallsFollowOn, FollowOn, IsRight, ResultIsFound, RightIfAway, RunsInTurn}}
 use Rattle.dgt_game.specs.{Waiting.{events_in, has_result, is_lost}, Results.{AreLost, HasResults, LostInTurn, NotFound, NotLost, OneByKings, OneByRules, OneOther, OneResult, Stay}}
 use Rattle.dgt_chess.specs.declared.state.State.{State}
+use Rattle.{std.specs.Prelude.{◌≢◌, ◌⊎◌}, dgt_chess.specs.{Attacks.{piece_at}, Rules.{board}}, dgt_game.specs.Results.{FitsAt, IsCentre}}
 use Rattle.std.proofs.Common.{inl, inr, ◌<◌, ◌+◌, ◌-◌, ◌/◌, ◌%◌, subst}
 use Rattle.dgt_values.specs.{declared.pieces.Piece.{Piece}, Board.{square_name}}
-use Rattle.dgt_game.specs.Results.{AreNamed, CentreIsMiddle, IsOnlyOn, KingsAreNamed, KingsOn, MatedHasLost, OthersStand}
+use Rattle.dgt_game.specs.Results.{AreNamed, CentreIsMiddle, ExplainedIsLike, ExplainsAt, IsOnlyOn, ShownIsExplained, KingsAreNamed, KingsOn, MatedHasLost, OthersStand}
 
 pub one_by_rules : OneByRules
 one_by_rules state h h' h'' k = search rules
@@ -247,3 +248,42 @@ centre_is_middle square = (λ h. search rules, λ h. grind arith)
 
 pub others_stand : OthersStand
 others_stand picture pieces square outside king = search rules
+
+-- a square in the middle, or one that isn't
+middle : (square : ℕ) → IsCentre square ⊎ ¬ (IsCentre square)
+middle square = grind arith
+
+explained_at : (picture pieces : List Piece) (square : ℕ)
+    → (¬ (IsCentre square) → piece_at picture square ≢ Piece.Empty
+    → piece_at pieces square ≡ piece_at picture square) → ExplainsAt picture pieces square
+explained_at picture pieces square h = elim (middle square) [
+  | inl centre ↦ inl centre
+  | inr outside ↦ search rules
+]
+
+pub shown_is_explained : ShownIsExplained
+shown_is_explained picture pieces = (
+  λ explains square small outside some. elim (explains square small) [
+    | inl centre ↦ absurd (outside ((centre_is_middle square).0 centre))
+    | inr rest ↦ elim rest [
+      | inl same ↦ sym same
+      | inr gone ↦ absurd (some gone)
+    ]
+  ],
+  λ h square small. explained_at picture pieces square (λ outside some.
+      h square small (λ inside. outside ((centre_is_middle square).1 inside)) some),
+)
+
+fits_at : (picture pieces : List Piece) (square : ℕ) → ExplainsAt picture pieces square
+    → FitsAt picture pieces square
+fits_at picture pieces square h = search rules
+
+pub explained_is_like : ExplainedIsLike
+explained_is_like picture state result kings explains = (
+  kings,
+  (
+    64,
+    λ square small differs.
+        fits_at picture (board state) square (explains square small),
+  ),
+)

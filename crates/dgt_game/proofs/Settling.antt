@@ -9,7 +9,9 @@ use Rattle.dgt_game.specs.{Standing.{IsThere, ShowsBut, ShowsLast, Stands, Stand
 use Rattle.dgt_game.specs.{Reading.{Shows}, Waiting.{coming}, declared.node.Step.{Step}}
 use Rattle.dgt_game.proofs.Standing.{last_at_first, some_of}
 use Rattle.dgt_game.specs.declared.recogniser.Search.{Search}
-use Rattle.dgt_game.specs.Settling.{BeginningHasRested, KingsAreTaken, KingsHaveRested}
+use Rattle.dgt_game.specs.Settling.{BeginningHasRested, KingsAreOutside, KingsAreTaken, KingsHaveRested}
+use Rattle.{std.proofs.Common.{List}, dgt_values.specs.declared.pieces.Piece.{Piece}, dgt_chess.specs.{Attacks.{piece_at, piece_of}, declared.pieces.{Colour.{Colour}, Man.{Man}}}}
+use Rattle.dgt_game.{specs.{Planning.{HasKing}, Results.{IsCentre, IsKing}, Settling.{KingsStand}}, proofs.Results.{centre_is_middle}}
 
 pub reported_has_rested : ReportedHasRested
 reported_has_rested self new event now (planned, quiet, small, ([], tells)) =
@@ -178,3 +180,35 @@ taken_by self now next is plans sure confirmed kings none done idle = search rul
 pub kings_are_taken : KingsAreTaken
 kings_are_taken self now planned sure confirmed kings none done idle =
     taken_by self now self.next refl planned sure confirmed kings none done idle
+
+king_at : (picture : List Piece) (square : ℕ) (colour : Colour)
+    → piece_at picture square ≡ piece_of colour Man.King → IsKing (piece_at picture square)
+king_at picture square Colour.White is = inl is
+king_at picture square Colour.Black is = inr is
+
+pub kings_are_outside : KingsAreOutside
+kings_are_outside picture = (
+  λ (has, free). (
+    has,
+    λ square colour is inside. free square ((centre_is_middle square).1 inside)
+        (king_at picture square colour is),
+  ),
+  λ (has, h). (
+    has,
+    λ square centre king. elim king [
+      | inl white ↦ h square Colour.White white ((centre_is_middle square).0 centre)
+      | inr black ↦ h square Colour.Black black ((centre_is_middle square).0 centre)
+    ],
+  ),
+)
+
+each_has : (picture : List Piece) (colour : Colour) → HasKing picture Colour.White
+    → HasKing picture Colour.Black → HasKing picture colour
+each_has picture Colour.White white black = white
+each_has picture Colour.Black white black = black
+
+pub kings_stand : (picture : List Piece) → HasKing picture Colour.White
+    → HasKing picture Colour.Black
+    → ((square : ℕ) → IsCentre square → ¬ (IsKing (piece_at picture square)))
+    → KingsStand picture
+kings_stand picture white black free = (λ colour. each_has picture colour white black, free)

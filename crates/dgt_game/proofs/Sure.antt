@@ -85,7 +85,7 @@ pub held_sure : (sure : List (List Piece)) (step : Step) (picture : List Piece)
     → halves_of step.way ≡ 1 → Contains sure picture
     → IsHeld (as_shown step.is_turned picture) step.state → WasShown sure (told_of step)
 unfolding WasShown
-held_sure sure step picture one seen held = inr (inl (one, (picture, seen, held)))
+held_sure sure step picture one seen held = inr (inl (one, (picture, seen, inl held)))
 
 marked_step : (sure : List (List Piece)) (nodes : List Node) (k : ℕ) → AreMarked sure nodes
     → MatchOption (slice_get nodes k) ⊥ (λ node. node.is_sure ≡ true)

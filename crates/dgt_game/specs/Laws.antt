@@ -1,5 +1,5 @@
 -- What lines, events and pictures mean, in other words.
-use Rattle.std.specs.Prelude.{◌≡◌, ◌≢◌, ◌<◌, ◌≤◌, ◌+◌, ⊤, ℕ, Bool, List, [], ◌∷◌, Some, Contains, length, slice_get}
+use Rattle.std.specs.Prelude.{◌≡◌, ◌≢◌, ◌<◌, ◌≤◌, ◌⊎◌, ◌+◌, ⊤, ℕ, Bool, List, [], ◌∷◌, Some, Contains, length, slice_get}
 use Rattle.dgt_values.specs.declared.pieces.Piece.{Piece}
 use Rattle.dgt_values.specs.Board.{square_number}
 use Rattle.dgt_chess.specs.declared.pieces.Man.{Man}
@@ -8,8 +8,10 @@ use Rattle.dgt_chess.specs.declared.state.State.{State}
 use Rattle.dgt_chess.specs.Attacks.{piece_at, piece_of}
 use Rattle.dgt_chess.specs.Rules.{IsStart, Legal, board}
 use Rattle.dgt_game.specs.declared.event.Event.{Event}
+use Rattle.dgt_game.specs.declared.event.GameResult.{GameResult}
 use Rattle.dgt_game.specs.declared.event.Moves.{Moves}
 use Rattle.dgt_game.specs.Lines.{IsLine, IsMove, moves_of}
+use Rattle.dgt_game.specs.Results.{Explains, KingsMean}
 use Rattle.dgt_game.specs.Told.{IsHeld, IsLegalTold, IsShown, Joins, Leads, Told, WasShown, as_shown, told_pieces}
 
 -- Each state follows the one before by as many legal half-moves, and the board is turned as it was.
@@ -74,12 +76,23 @@ SeveralAreShown =
     (shown : List (List Piece)) (line : List Told) (n : ℕ) (told : Told) → IsShown shown line
     → slice_get line n ≡ Some told → 2 ≤ told.halves → Contains shown (told_pieces told)
 
--- After a single one, pieces of the side to move may have been in hands.
+-- After a single one, pieces of the side to move may have been in hands, or the kings gave a result
+-- and some pieces were gone.
 abbrev pub OneIsShown : Type 0
 OneIsShown =
     (shown : List (List Piece)) (told : Told) → WasShown shown told → told.halves ≡ 1
     → (picture : List Piece) × Contains shown picture
-    × IsHeld (as_shown told.is_turned picture) told.state
+    × (IsHeld (as_shown told.is_turned picture) told.state
+    ⊎ ((result : GameResult) × KingsMean (as_shown told.is_turned picture) result
+    × Explains (as_shown told.is_turned picture) (board told.state)))
+
+-- Such a picture is enough.
+abbrev pub EndIsShown : Type 0
+EndIsShown =
+    (shown : List (List Piece)) (told : Told) (picture : List Piece) (result : GameResult)
+    → told.halves ≡ 1 → Contains shown picture
+    → KingsMean (as_shown told.is_turned picture) result
+    → Explains (as_shown told.is_turned picture) (board told.state) → WasShown shown told
 
 -- no other piece may lack, and none stands elsewhere
 abbrev pub OthersAreHeld : Type 0

@@ -16,6 +16,7 @@ pub mod Runs
 pub mod Filed
 pub mod Settling
 pub mod Finding
+pub mod Unseen
 -- Only for bodies.
 pub mod Ways
 pub mod Reach

@@ -48,6 +48,7 @@ new_recogniser = record {
   returned = record { count = 0; is_sure = false; near = omega arith };
   is_behind = false;
   is_set_up = false;
+  is_astray = false;
   is_white_king_lifted = false;
   is_black_king_lifted = false;
   staying = NONE_STAYS;

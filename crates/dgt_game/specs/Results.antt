@@ -58,6 +58,20 @@ abbrev pub IsLike : List Piece → List Piece → Type 0
 IsLike picture pieces =
     (other : ℕ) × ((square : ℕ) → square < 64 → square ≢ other → FitsAt picture pieces square)
 
+-- The pieces explain the picture: outside the centre it shows these, and some may be gone.
+abbrev pub ExplainsAt : List Piece → List Piece → ℕ → Type 0
+ExplainsAt picture pieces square =
+    IsCentre square ⊎ (piece_at picture square ≡ piece_at pieces square)
+    ⊎ (piece_at picture square ≡ Piece.Empty)
+
+abbrev pub Explains : List Piece → List Piece → Type 0
+Explains picture pieces = (square : ℕ) → square < 64 → ExplainsAt picture pieces square
+
+-- the players show a result, and the state explains what else is shown
+abbrev pub EndsShown : List Piece → State → Type 0
+EndsShown picture state =
+    (result : GameResult) × KingsMean picture result × Explains picture (board state)
+
 -- the players show the result of the state
 abbrev pub ByKings : List Piece → State → GameResult → Type 0
 ByKings picture state result = KingsMean picture result × IsLike picture (board state)
@@ -186,3 +200,18 @@ OthersStand =
     → ¬ (IsKing (piece_at pieces square))
     → FitsAt picture pieces square ↔ ((piece_at picture square ≡ piece_at pieces square)
     ⊎ (piece_at picture square ≡ Piece.Empty))
+
+-- What explains a picture has the piece that stands on each square outside the middle.
+abbrev pub ShownIsExplained : Type 0
+ShownIsExplained =
+    (picture pieces : List Piece)
+    → Explains picture pieces ↔ ((square : ℕ) → square < 64
+    → ¬ ((3 ≤ file square) × (file square ≤ 4) × (3 ≤ row square) × (row square ≤ 4))
+    → piece_at picture square ≢ Piece.Empty
+    → piece_at pieces square ≡ piece_at picture square)
+
+-- It is like the pieces: no square shows another one.
+abbrev pub ExplainedIsLike : Type 0
+ExplainedIsLike =
+    (picture : List Piece) (state : State) (result : GameResult) → KingsMean picture result
+    → Explains picture (board state) → ByKings picture state result

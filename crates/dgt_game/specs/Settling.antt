@@ -1,6 +1,10 @@
 -- What is reported has rested, or what is seen next answers it.
-use Rattle.std.specs.Prelude.{◌≡◌, ◌≢◌, ◌<◌, ◌≤◌, ◌⊎◌, ◌+◌, ◌-◌, ◌^◌, ℕ, true, false, [], Some, MatchOption, slice_get}
-use Rattle.dgt_chess.specs.Attacks.{other}
+use Rattle.std.specs.Prelude.{◌≡◌, ◌≢◌, ◌<◌, ◌≤◌, ◌↔◌, ◌⊎◌, ◌+◌, ◌-◌, ◌^◌, ℕ, true, false, List, [], Some, MatchOption, slice_get}
+use Rattle.dgt_values.specs.declared.pieces.Piece.{Piece}
+use Rattle.dgt_values.specs.Board.{pieces_of}
+use Rattle.dgt_chess.specs.declared.pieces.Colour.{Colour}
+use Rattle.dgt_chess.specs.declared.pieces.Man.{Man}
+use Rattle.dgt_chess.specs.Attacks.{file, other, piece_at, piece_of, row}
 use Rattle.dgt_chess.specs.Rules.{CanMove}
 use Rattle.dgt_game.specs.declared.event.Event.{Event}
 use Rattle.dgt_game.specs.declared.event.GameResult.{GameResult}
@@ -17,7 +21,8 @@ use Rattle.dgt_game.specs.declared.recogniser.Search.{Search}
 use Rattle.dgt_game.specs.declared.resting.Task.{Task}
 use Rattle.dgt_game.specs.Memory.{IsTold, steps}
 use Rattle.dgt_game.specs.declared.view.View.{View}
-use Rattle.dgt_game.specs.Planning.{IsLifted, IsPlanned, IsSettled, RestsBefore, TaskFits}
+use Rattle.dgt_game.specs.Planning.{HasKing, IsLifted, IsPlanned, IsSettled, RestsBefore, TaskFits}
+use Rattle.dgt_game.specs.Results.{IsCentre, IsKing}
 use Rattle.dgt_game.specs.Standing.{IsThere, Lands, ShowsAs, ShowsBut, ShowsLast, Stands}
 use Rattle.dgt_game.specs.Timing.{Due, IsIdle, IsNext}
 use Rattle.dgt_game.specs.Reading.{Shows}
@@ -157,7 +162,7 @@ HasGoneBack count self =
 -- lifted and no doubt as left, and a line that was lost is found.
 abbrev pub StandsAnew : Recogniser → Type 0
 StandsAnew self =
-    (self.memory.seen.items ≡ []) × (self.is_behind ≡ false)
+    (self.memory.seen.items ≡ []) × (self.is_behind ≡ false) × (self.is_astray ≡ false)
     × (self.is_white_king_lifted ≡ false) × (self.is_black_king_lifted ≡ false)
     × (self.lost ≢ Lost.Reported)
 
@@ -165,9 +170,10 @@ StandsAnew self =
 abbrev pub IsSureOfLast : Recogniser → Type 0
 IsSureOfLast self = (self.is_sure ≡ true) × (self.here ≡ Place.Line 0)
 
--- until it does, it is remembered that something wasn't seen
+-- until it does, it is remembered that something wasn't seen, or that nothing led to what rested
 abbrev pub RemembersDoubt : Recogniser → Recogniser → Type 0
-RemembersDoubt old new = (new.is_behind ≡ old.is_behind) ⊎ IsSureOfLast new
+RemembersDoubt old new =
+    ((new.is_behind ≡ old.is_behind) × (new.is_astray ≡ old.is_astray)) ⊎ IsSureOfLast new
 
 -- Nothing leads to what is shown, though it has rested for 320 ms and no pieces are lifted. Once a
 -- line has a result, that counts only after a doubt.
@@ -175,6 +181,25 @@ abbrev pub IsUnexplained : ℕ → Recogniser → Type 0
 IsUnexplained now self =
     (self.here ≡ Place.Nowhere) × (self.since + 320 ≤ now)
     × ((self.is_behind ≡ true) ⊎ (self.over ≡ Over.No)) × ¬ (IsLifted self)
+
+-- both kings stand, and none of them in the centre
+abbrev pub KingsStand : List Piece → Type 0
+KingsStand picture =
+    ((colour : Colour) → HasKing picture colour)
+    × ((square : ℕ) → IsCentre square → ¬ (IsKing (piece_at picture square)))
+
+-- That is so if and only if each king stands somewhere, and no king in the middle.
+abbrev pub KingsAreOutside : Type 0
+KingsAreOutside =
+    (picture : List Piece)
+    → KingsStand picture ↔ (((colour : Colour) → HasKing picture colour)
+    × ((square : ℕ) (colour : Colour) → piece_at picture square ≡ piece_of colour Man.King
+    → ¬ ((3 ≤ file square) × (file square ≤ 4) × (3 ≤ row square) × (row square ≤ 4))))
+
+-- nothing leads to what has rested before the kings are put in the centre
+abbrev pub GoesAstray : ℕ → Recogniser → Type 0
+GoesAstray now self =
+    IsUnexplained now self × MatchOption self.view ⊥ (λ view. KingsStand (pieces_of view.shown))
 
 -- ---- How long half-moves rest
 

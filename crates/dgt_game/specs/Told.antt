@@ -7,6 +7,7 @@ use Rattle.dgt_chess.specs.Attacks.{piece_at, piece_of}
 use Rattle.dgt_chess.specs.Rules.{IsStart, board}
 use Rattle.dgt_game.specs.declared.event.Event.{Event}
 use Rattle.dgt_game.specs.Lines.{IsMove, IsLine, IsOnly, moves_of}
+use Rattle.dgt_game.specs.Results.{EndsShown}
 
 -- a state reported, the half-moves to it from the one before, and whether the board is turned
 pub record Told : Type 0 where
@@ -65,13 +66,14 @@ IsHeld picture state =
     ⊎ ((piece_at picture k ≡ Piece.Empty)
     × ((man : Man) × (piece_at (board state) k ≡ piece_of state.turn man)))
 
--- The board has shown the state's position, or all of it but pieces of the side to move, or a line
--- begins with the state in which games do.
+-- The board has shown the state's position, or all of it but pieces of the side to move, or a result
+-- by kings and else only its pieces, or a line begins with the state in which games do.
 unfoldable pub WasShown : List (List Piece) → Told → Type 0
 WasShown shown told =
     Contains shown (told_pieces told)
     ⊎ ((told.halves ≡ 1) × ((picture : List Piece) × Contains shown picture
-    × IsHeld (as_shown told.is_turned picture) told.state))
+    × (IsHeld (as_shown told.is_turned picture) told.state
+    ⊎ EndsShown (as_shown told.is_turned picture) told.state)))
     ⊎ ((told.halves ≡ 0) × IsStart told.state)
 
 -- each position of the line was shown

@@ -6,13 +6,19 @@ ghost use Rattle.dgt_values.specs.Board.{pieces_of};
 ghost use Rattle.dgt_chess.specs.Rules.{board};
 ghost use Rattle.dgt_game.specs.declared.node.Place.{Place};
 ghost use Rattle.dgt_game.specs.declared.node.Step.{Step};
+ghost use Rattle.dgt_game.specs.declared.node.Returned.{Returned};
+ghost use Rattle.dgt_game.specs.declared.node.Way.{Way};
+ghost use Rattle.dgt_game.specs.declared.event.GameResult.{GameResult};
+ghost use Rattle.dgt_chess.specs.declared.state.Move.{Move};
+ghost use Rattle.dgt_game.specs.Unseen.{OnlyExplains};
 ghost use Rattle.dgt_game.specs.Memory.{step_at, steps};
-ghost use Rattle.dgt_game.specs.Results.{ByKings, FitsAt, IsCentre, IsLike, IsOnlyOn, KingsMean};
+ghost use Rattle.dgt_game.specs.Results.{ByKings, Explains, FitsAt, IsCentre, IsLike, IsOnlyOn, KingsMean};
 ghost use Rattle.dgt_game.specs.Told.{Told, as_shown};
 
 use crate::event::GameResult;
-use crate::node::{Node, Place};
+use crate::node::{Node, Place, Way};
 use crate::recogniser::{Over, Recogniser};
+use crate::unseen::{Found, explaining, explains};
 use crate::view::{View, only_square};
 use crate::ways::is_same;
 use dgt_values::{Piece, Position, Square};
@@ -37,6 +43,7 @@ impl Recogniser {
         ensures returned { self.new.returned ≡ self.old.returned }
         ensures set_up { self.new.is_set_up ≡ self.old.is_set_up }
         ensures behind { self.new.is_behind ≡ self.old.is_behind }
+        ensures astray { self.new.is_astray ≡ self.old.is_astray }
         ensures kings { self.new.has_kings ≡ true
             → (self.old.has_kings ≡ true) ⊎ BothKingsMean self.new view.now }
     {
@@ -93,6 +100,7 @@ impl Recogniser {
     pub(crate) fn end_by_kings(&mut self)
         ensures holds { (shown : List (List Piece)) (line : List Told)
             → self.old.memory.back ≡ 0 → self.old.memory.unsaid.items ≡ []
+            → IfSome self.old.view (λ view. Contains shown (pieces_of view.shown))
             → Holds shown line self.old.memory → Holds shown line self.new.memory }
         ensures view { self.new.view ≡ self.old.view }
         ensures right { IsQuiet self.old → Waits self.old → Waits self.new }
@@ -118,12 +126,80 @@ impl Recogniser {
         let Some((result, place)) = self.kings_result(&view) else {
             return;
         };
+        let place = self.add_unseen(&view, place);
         let is_there = self.end_at(place);
         self.here = Place::Nowhere;
         self.is_next = false;
         self.search = crate::recogniser::Search::Hopeless;
         if is_there {
             self.ended = Some((result, Over::Kings));
+        }
+    }
+
+    // Adds the half-move after a place that was made before the kings were lifted, though it wasn't
+    // shown, if the board shows that there is just one. Returns where the line ends then. It adds
+    // none if the board went astray before.
+    fn add_unseen(&mut self, view: &View, place: Place) -> Place
+        ensures keeps { Keeps self.old self.new }
+        ensures lost { self.new.lost ≡ self.old.lost }
+        ensures returned { self.new.returned ≡ self.old.returned }
+        ensures todo { AddsNone self.old self.new }
+        ensures line { self.new.memory.line ≡ self.old.memory.line }
+        ensures holds { (shown : List (List Piece)) (line : List Told) (before : Step)
+            (end : GameResult)
+            → self.old.memory.back ≡ 0 → self.old.memory.unsaid.items ≡ []
+            → step_at (steps self.old.memory.line.items) (steps self.old.memory.seen.items) place
+            ≡ Some before
+            → ByKings (as_shown before.is_turned (pieces_of view.now.shown)) before.state end
+            → Contains shown (pieces_of view.now.shown)
+            → Holds shown line self.old.memory → Holds shown line self.new.memory }
+        ensures is_open { IsOpen self.old.memory → IsOpen self.new.memory }
+        ensures rooted { IsRooted (length (steps self.old.memory.line.items))
+            (steps self.old.memory.seen.items)
+            → IsRooted (length (steps self.new.memory.line.items))
+            (steps self.new.memory.seen.items) }
+        ensures quiet { (self.new.memory.back ≡ self.old.memory.back)
+            × (self.new.memory.unsaid.items ≡ self.old.memory.unsaid.items)
+            × (self.new.memory.answer ≡ self.old.memory.answer) }
+        ensures ends { (before : Step) (end : GameResult)
+            → step_at (steps self.old.memory.line.items) (steps self.old.memory.seen.items) place
+            ≡ Some before → ((k : ℕ) → place ≡ Place.Line k → k ≡ 0)
+            → ByKings (as_shown before.is_turned (pieces_of view.now.shown)) before.state end
+            → (step : Step) × (step_at (steps self.new.memory.line.items)
+            (steps self.new.memory.seen.items) result ≡ Some step)
+            × ByKings (as_shown step.is_turned (pieces_of view.now.shown)) step.state end }
+        ensures near { ((k : ℕ) → place ≡ Place.Line k → k ≡ 0)
+            → (k : ℕ) → result ≡ Place.Line k → k ≡ 0 }
+        ensures sure { (sure : List (List Piece)) (returned : Returned)
+            → WereSure sure self.old.memory returned → WereSure sure self.new.memory returned }
+        ensures unseen { (result ≡ place) ⊎ ((before new : Step) × (one : Move)
+            × (step_at (steps self.old.memory.line.items) (steps self.old.memory.seen.items) place
+            ≡ Some before)
+            × (step_at (steps self.new.memory.line.items) (steps self.new.memory.seen.items) result
+            ≡ Some new)
+            × (new.way ≡ Way.Made one) × OnlyExplains (as_shown before.is_turned
+            (pieces_of view.now.shown)) before.state one new.state
+            × ¬ (Explains (as_shown before.is_turned (pieces_of view.now.shown))
+            (board before.state))) }
+        ensures astray { self.old.is_astray ≡ true → (result ≡ place) × (self.new ≡ self.old) }
+    {
+        if self.is_astray || self.memory.seen.is_full() {
+            return place;
+        }
+        let Some(from) = self.memory.node(place) else {
+            return place;
+        };
+        let shown = view.from(from.step.is_turned);
+        if explains(shown, from.step.state.position()) {
+            return place;
+        }
+        let Found::Only(one, state) = explaining(&from.step.state, shown) else {
+            return place;
+        };
+        let node = self.follow(&from, place, Way::Made(one), state);
+        match self.memory.push(node) {
+            Some(k) => Place::Seen(k),
+            None => place,
         }
     }
 
@@ -210,7 +286,7 @@ fn fits(shown: &Position, position: &Position, at: u8) -> bool
     is_king || is_centre(at) || is_same(now, piece) || is_same(now, Piece::Empty)
 }
 
-fn is_centre(at: u8) -> bool
+pub(crate) fn is_centre(at: u8) -> bool
     ensures { IsTrue result ↔ IsCentre at }
 {
     at == 27 || at == 28 || at == 35 || at == 36

@@ -7,19 +7,20 @@ ghost use Rattle.dgt_game.specs.declared.event.Event.{Event};
 ghost use Rattle.dgt_game.specs.declared.recogniser.Recogniser.{Recogniser};
 ghost use Rattle.dgt_game.specs.Filed.{AllIsFile, AskedStays, AsksAreLegal, CorrectionsKeepNothing, EndedIsKept, NoLineIsDeleted, OneBegins, WholeIsKept};
 ghost use Rattle.dgt_game.specs.Finding.{IsFound, MovedIsSearched, SearchIsDue, WhatFollowsIsFound};
-ghost use Rattle.dgt_game.specs.Laws.{BackIsCounted, JoinedIsOne, LegalIsJoined, NoneAndOne, OneIsShown, OneLine, OthersAreHeld, SeveralAreShown, ShownIsHeld, StartIsShown, UnseenIsOnly};
+ghost use Rattle.dgt_game.specs.Laws.{BackIsCounted, EndIsShown, JoinedIsOne, LegalIsJoined, NoneAndOne, OneIsShown, OneLine, OthersAreHeld, SeveralAreShown, ShownIsHeld, StartIsShown, UnseenIsOnly};
 ghost use Rattle.dgt_game.specs.Planning.{ElseMayBegin, InTurnIsNotRefused, IsLostOr, IsPlanned, LiftedIsGone, LostIsReported, NothingFits, OneFits, PossibleIsHopeful, WhyHopeless};
 ghost use Rattle.dgt_game.specs.Reading.{EarlierAreKnown, ElseStartIsKnown, IsExplained, LiveForTen, LiveHasBegun, ManHasMoved, MovesAreKnown, RepeatsInPlace, RepetitionIsRead, SeenIsFollowed, StartIsKnown, TwoAreKnown, TwoToFourAreSome};
 ghost use Rattle.dgt_game.specs.declared.node.{Place.{Place}, Step.{Step}};
 ghost use Rattle.dgt_game.specs.Memory.{step_at, steps};
 ghost use Rattle.dgt_game.specs.Recogniser.{Knows, new_recogniser};
-ghost use Rattle.dgt_game.specs.Results.{CentreIsMiddle, KingsAreNamed, LostInTurn, MatedHasLost, NotFound, NotLost, OneByKings, OneByRules, OneOther, OneResult, OthersStand, Stay};
+ghost use Rattle.dgt_game.specs.Results.{CentreIsMiddle, ExplainedIsLike, KingsAreNamed, LostInTurn, MatedHasLost, NotFound, NotLost, OneByKings, OneByRules, OneOther, OneResult, OthersStand, ShownIsExplained, Stay};
 ghost use Rattle.dgt_game.specs.Runs.{CallsAreRuns, IsLegalAndShown, LastWasShown, NothingWasSure, ReportedInOrder, ShownMayEnd, SureIsCounted, SureIsSeen, SureWasShown};
-ghost use Rattle.dgt_game.specs.Settling.{BeginningHasRested, KingsAreTaken, KingsHaveRested, LastIsShown, NothingWaitsLong, ReplacingHasRested, ReportedHasRested, ReportedHasSettled, ReportedIsNext, ReportedIsShown, ReportsNow, SeenIsAnswered};
+ghost use Rattle.dgt_game.specs.Settling.{BeginningHasRested, KingsAreOutside, KingsAreTaken, KingsHaveRested, LastIsShown, NothingWaitsLong, ReplacingHasRested, ReportedHasRested, ReportedHasSettled, ReportedIsNext, ReportedIsShown, ReportsNow, SeenIsAnswered};
 ghost use Rattle.dgt_game.specs.Standing.{HasRested, OnlyShownIsReported, RestIsReported, ShownIsNext, Stands};
 ghost use Rattle.dgt_game.specs.Sure.{KnowsSure};
 ghost use Rattle.dgt_game.specs.Timing.{Calls, Due, DueEnds, DueIsRight, IsIdle, IsNext, NoCallMatters, with_report};
 ghost use Rattle.dgt_game.specs.Told.{Told};
+ghost use Rattle.dgt_game.specs.Unseen.{BeforeKingsIsOnly};
 ghost use Rattle.dgt_game.specs.Waiting.{CallsFollowOn, IsQuiet, ResultIsFound, RightIfAway, RunsInTurn, Waits};
 
 use crate::event::GAP;
@@ -60,6 +61,7 @@ pub fn what_events_say()
 pub fn what_was_shown()
     ensures several { SeveralAreShown }
     ensures one { OneIsShown }
+    ensures end { EndIsShown }
     ensures others { OthersAreHeld }
     ensures pieces { ShownIsHeld }
     ensures start { StartIsShown }
@@ -212,6 +214,10 @@ pub fn how_games_end()
     ensures kings { KingsAreNamed }
     ensures centre { CentreIsMiddle }
     ensures others { OthersStand }
+    ensures explained { ShownIsExplained }
+    ensures like { ExplainedIsLike }
+    ensures before { BeforeKingsIsOnly }
+    ensures outside { KingsAreOutside }
     ensures live { LiveForTen }
 {}
 

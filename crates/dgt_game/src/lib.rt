@@ -47,6 +47,7 @@ mod searching;
 mod staying;
 mod telling;
 mod times;
+mod unseen;
 mod view;
 mod ways;
 

@@ -808,8 +808,8 @@ impl Recogniser {
         }
     }
 
-    // A node that follows another.
-    fn follow(&self, from: &Node, parent: Place, way: Way, state: State) -> Node
+    /// A node that follows another.
+    pub(crate) fn follow(&self, from: &Node, parent: Place, way: Way, state: State) -> Node
         ensures step { result.step ≡ record {
           state = state;
           is_turned = from.now.step.is_turned;

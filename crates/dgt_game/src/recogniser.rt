@@ -10,6 +10,7 @@ ghost use Rattle.dgt_game.specs.declared.reading.Reading.{Reading};
 ghost use Rattle.dgt_game.specs.declared.recogniser.Search.{Search};
 ghost use Rattle.dgt_game.specs.Planning.{LacksOnly, LacksSome};
 ghost use Rattle.dgt_game.specs.declared.view.View.{View};
+ghost use Rattle.dgt_game.specs.Results.{IsCentre, IsKing};
 ghost use Rattle.dgt_game.specs.Told.{Told};
 
 use crate::event::{Event, GameResult};
@@ -89,6 +90,7 @@ pub struct Recogniser {
     pub(crate) returned: Returned,
     pub(crate) is_behind: bool,
     pub(crate) is_set_up: bool,
+    pub(crate) is_astray: bool,
     pub(crate) is_white_king_lifted: bool,
     pub(crate) is_black_king_lifted: bool,
     // which half-moves of the line stay
@@ -102,7 +104,7 @@ impl Recogniser {
     ghost use Rattle.dgt_game.specs.Reading.{HasLine, IsExplained, IsRepeated, RepeatsInPlace, TakesFewBack, HasRoom, IsLive, IsRoomFor, ReadsView, FollowsSeen, IsKnown, IsRead};
     ghost use Rattle.dgt_game.specs.Recogniser.{GoesOn, Knows, Sees, last_state, new_recogniser, picture_of, pictured};
     ghost use Rattle.dgt_game.specs.Reading.{ReadsView, Shows};
-    ghost use Rattle.dgt_game.specs.Settling.{HasGoneBack, IsAnswered, IsUnexplained, RemembersDoubt, StandsAnew};
+    ghost use Rattle.dgt_game.specs.Settling.{GoesAstray, HasGoneBack, IsAnswered, IsUnexplained, KingsStand, RemembersDoubt, StandsAnew};
     ghost use Rattle.dgt_game.specs.Staying.{after_step};
     ghost use Rattle.dgt_game.specs.declared.staying.TheConstants.{NONE_STAYS};
     ghost use Rattle.dgt_game.specs.Standing.{IsOpen, ShowsBut, Stands};
@@ -138,6 +140,7 @@ impl Recogniser {
             },
             is_behind: false,
             is_set_up: false,
+            is_astray: false,
             is_white_king_lifted: false,
             is_black_king_lifted: false,
             staying: NONE_STAYS,
@@ -183,6 +186,10 @@ impl Recogniser {
         ensures staying { self.new.staying ≡ self.old.staying }
         ensures behind { IsOk result → (self.old.is_behind ≡ true) ⊎ ((self.old.is_sure ≡ true)
             × (is_sure_sight observation.now.sight ≡ false)) → (self.new.is_behind ≡ true)
+            ⊎ ((self.new.is_sure ≡ true) × (self.new.here ≡ Place.Line 0)) }
+        ensures astray { IsOk result → (self.old.is_astray ≡ true)
+            ⊎ ((pictured self.new.view ≢ pictured self.old.view)
+            × GoesAstray observation.now.at self.old) → (self.new.is_astray ≡ true)
             ⊎ ((self.new.is_sure ≡ true) × (self.new.here ≡ Place.Line 0)) }
     {
         if self.is_due(observation.at) {
@@ -278,11 +285,38 @@ impl Recogniser {
             → FollowsSeen self.old.memory picture → FollowsSeen self.new.memory picture }
         ensures sure { KeepsSure self.old self.new }
         ensures behind { self.new.is_behind ≡ self.old.is_behind }
+        ensures astray { (self.new.is_astray ≡ true)
+            ↔ ((self.old.is_astray ≡ true) ⊎ GoesAstray now self.old) }
     {
+        let is_unexplained = self.is_unexplained(now);
+        self.is_astray = self.is_astray || is_unexplained && self.do_kings_stand();
         self.memory.leave(self.here, now);
-        if self.is_unexplained(now) || self.may_either_move() {
+        if is_unexplained || self.may_either_move() {
             self.add_roots();
         }
+    }
+
+    // Whether both kings stand, and none of them in the centre.
+    fn do_kings_stand(&self) -> bool
+        ensures { IsTrue result ↔ MatchOption self.now.view ⊥
+            (λ view. KingsStand (pieces_of view.shown)) }
+    {
+        match &self.view {
+            Some(view) => self.do_kings_stand_in(view),
+            None => false,
+        }
+    }
+
+    fn do_kings_stand_in(&self, view: &View) -> bool
+        ensures { IsTrue result ↔ KingsStand (pieces_of view.now.shown) }
+    {
+        if !self.has_king(view, Colour::White) {
+            return false;
+        }
+        if !self.has_king(view, Colour::Black) {
+            return false;
+        }
+        is_centre_free(&view.shown)
     }
 
     // Whether nothing led to what is shown, though it rested.
@@ -516,6 +550,7 @@ impl Recogniser {
         }
         self.memory.forget_seen();
         self.is_behind = false;
+        self.is_astray = false;
         self.is_white_king_lifted = false;
         self.is_black_king_lifted = false;
         self.find();
@@ -736,6 +771,25 @@ impl Recogniser {
             None => false,
         }
     }
+}
+
+// Whether no king stands in the centre.
+fn is_centre_free(shown: &Position) -> bool
+    ensures { IsTrue result ↔ ((square : ℕ) → IsCentre square
+        → ¬ (IsKing (piece_at (pieces_of shown.now) square))) }
+{
+    !is_king_on(shown, 27)
+        && !is_king_on(shown, 28)
+        && !is_king_on(shown, 35)
+        && !is_king_on(shown, 36)
+}
+
+fn is_king_on(shown: &Position, at: u8) -> bool
+    requires { at < 64 }
+    ensures { IsTrue result ↔ IsKing (piece_at (pieces_of shown.now) at) }
+{
+    let piece = shown.get(Square::from_small(at));
+    is_same(piece, Piece::WhiteKing) || is_same(piece, Piece::BlackKing)
 }
 
 // With another clock, a line may begin with a position that was refused.

@@ -401,6 +401,7 @@ impl Recogniser {
             → FollowsSeen self.old.memory picture → FollowsSeen self.new.memory picture }
         ensures sure { KeepsSure self.old self.new }
         ensures behind { self.new.is_behind ≡ self.old.is_behind }
+        ensures astray { self.new.is_astray ≡ self.old.is_astray }
     {
         let (white, black) = self.roots();
         self.memory.make_room(2);
@@ -427,6 +428,7 @@ impl Recogniser {
             → WereSure sure self.old.memory self.old.returned
             → WereSure sure self.new.memory self.new.returned }
         ensures behind { self.new.is_behind ≡ self.old.is_behind }
+        ensures astray { self.new.is_astray ≡ self.old.is_astray }
     {
         if let Some(node) = root {
             self.memory.push(node);

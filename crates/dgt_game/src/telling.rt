@@ -82,6 +82,7 @@ impl Recogniser {
         self.is_next = false;
         self.is_behind = false;
         self.is_set_up = false;
+        self.is_astray = false;
         self.is_white_king_lifted = false;
         self.is_black_king_lifted = false;
         self.has_kings = false;

@@ -167,7 +167,7 @@ fn ways_from<S: Search>(state: &State, picture: &Position, from: u8, rest: u8) -
     found
 }
 
-fn has(squares: u64, square: u8) -> bool
+pub(crate) fn has(squares: u64, square: u8) -> bool
     requires { square < 64 }
     ensures { IsTrue result ↔ IsBitSet squares square }
 {

@@ -15,6 +15,7 @@ returns-in-Ok-see-clause-seen c = λ _.
       changed = h.changed refl;
       sure_since = h.sure_since;
       behind = h.behind refl;
+      astray = h.astray refl;
       line = h.seen refl;
       sure_line = h.sight refl;
       right = h.right;

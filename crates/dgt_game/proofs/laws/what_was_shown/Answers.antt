@@ -1,4 +1,4 @@
-use Rattle.dgt_game.proofs.Meaning.{one_is_shown, others_are_held, several_are_shown, shown_is_held, start_is_shown}
+use Rattle.dgt_game.proofs.Meaning.{end_is_shown, one_is_shown, others_are_held, several_are_shown, shown_is_held, start_is_shown}
 use Rattle.dgt_game.proofs.laws.what_was_shown.Goals as goal
 
 pub returns-clause-several : goal.returns-clause-several
@@ -15,3 +15,6 @@ returns-clause-pieces c = shown_is_held
 
 pub returns-clause-start : goal.returns-clause-start
 returns-clause-start c = start_is_shown
+
+pub returns-clause-end : goal.returns-clause-end
+returns-clause-end c = end_is_shown

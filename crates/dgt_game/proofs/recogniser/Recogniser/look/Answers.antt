@@ -102,12 +102,15 @@ returns-clause-sure c = λ sure told shown h.
 pub returns-clause-behind : goal.returns-clause-behind
 returns-clause-behind c =
     let behind = λ (r : Recogniser). r.is_behind in
-    let same : behind c.if-has_white.self ≡ behind c.args.self.now = elim c.if-has_white.branch [
-      | then-has_white+then-has_black w ↦ ap behind w.self-is
-      | else-has_white w ↦ ap behind w.self-is
+    let astray = λ (r : Recogniser). r.is_astray in
+    let same : (behind c.if-has_white.self ≡ behind c.args.self.now)
+    × (astray c.if-has_white.self ≡ astray c.args.self.now) = elim c.if-has_white.branch [
+      | then-has_white+then-has_black w ↦ (ap behind w.self-is, ap astray w.self-is)
+      | else-has_white w ↦ (ap behind w.self-is, ap astray w.self-is)
     ] in
+    let kings = c.look_at_kings.ensures in
     elim c.take.ensures.behind [
-      | inl is ↦ inl (is ∙ c.look_at_kings.ensures.behind ∙ same)
+      | inl is ↦ inl (is.0 ∙ kings.behind ∙ same.0, is.1 ∙ kings.astray ∙ same.1)
       | inr last ↦ inr last
     ]
 

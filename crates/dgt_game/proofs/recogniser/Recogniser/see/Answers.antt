@@ -1,7 +1,7 @@
 use Rattle.std.proofs.Common.{inr}
 use Rattle.dgt_game.specs.declared.recogniser.Recogniser.{Recogniser}
 use Rattle.{std.proofs.Common.{rules, ◌≡◌, ◌∙◌, inl, None, false, sym, ap, true}, dgt_values.specs.Board.{pieces_of}, dgt_game.specs.{declared.memory.Memory.{Memory}, Recogniser.{Knows, shown_after}}}
-use Rattle.dgt_game.specs.{declared.recogniser.Lost.{Lost}, Memory.{IsTold}, Waiting.{Waits}}
+use Rattle.dgt_game.specs.{declared.recogniser.Lost.{Lost}, Memory.{IsTold}, Recogniser.{pictured}, Waiting.{Waits}}
 use Rattle.dgt_game.{proofs.{Known.{holds_more, knows_more, knows_same, memory_of, same_side, view_of, within_after}, Waiting.{ended_of, lost_of}}}
 use Rattle.dgt_game.{specs.Waiting.{has_notice, is_sure_sight}, proofs.recogniser.Recogniser.see.Goals.{then-not-is_same_picture, then-not-self, else-not-self}}
 use Rattle.dgt_game.{proofs.{recogniser.Recogniser.see.Goals.{else-not-is_same_picture+else-is_sure-self, in-Sure, in_default}, Pictures.{returned_of}}, specs.Sure.{KnowsSure, sure_after}}
@@ -235,8 +235,32 @@ pub returns-clause-behind : goal.returns-clause-behind
 returns-clause-behind c = λ done doubt.
     elim c.if-not-is_same_picture.branch [
       | then-not-is_same_picture w ↦ rw w.self-is (elim w.show.ensures.behind [
-        | inl same ↦ inl (same ∙ search rules)
+        | inl same ↦ inl (same.0 ∙ search rules)
         | inr last ↦ inr last
       ])
       | else-not-is_same_picture+else-is_sure-self w ↦ rw w.self-is (search rules)
+    ]
+
+pub returns-clause-astray : goal.returns-clause-astray
+returns-clause-astray c = λ done either.
+    let astray = λ (r : Recogniser). r.is_astray in
+    elim c.if-not-is_same_picture.branch [
+      | then-not-is_same_picture w ↦
+          let same : astray w.if-not-self.self ≡ astray w.leave.new.self =
+          elim w.if-not-self.branch [
+            | then-not-self w' ↦ ap astray w'.self-is
+            | else-not-self w' ↦ ap astray w'.self-is
+          ] in
+          let is : w.leave.new.self.is_astray ≡ true = w.leave.ensures.astray.1 (elim either [
+            | inl old ↦ inl old
+            | inr new ↦ inr new.1
+          ]) in
+          rw w.self-is (elim w.show.ensures.behind [
+            | inl kept ↦ inl (kept.1 ∙ same ∙ is)
+            | inr last ↦ inr last
+          ])
+      | else-not-is_same_picture+else-is_sure-self w ↦ elim either [
+        | inl old ↦ inl (rw w.self-is old)
+        | inr new ↦ absurd (new.0 (ap (λ (r : Recogniser). pictured r.view) w.self-is))
+      ]
     ]
