@@ -6,7 +6,7 @@ use Rattle.dgt_game.proofs.recogniser.Recogniser.add_unseen.Goals as goal
 
 pub returns-in_default-explaining : goal.returns-in_default-explaining
 returns-in_default-explaining c = record {
-  keeps = (refl, refl, refl, refl, λ h. h, refl, refl, refl, refl);
+  keeps = (refl, refl, refl, refl, λ h. h, refl, refl, refl, refl, refl);
   lost = refl;
   returned = refl;
   todo = (refl, λ e. e);
