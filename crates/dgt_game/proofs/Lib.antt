@@ -21,6 +21,7 @@ pub mod Results
 pub mod Waiting
 pub mod Timing
 pub mod Standing
+pub mod Far
 pub mod Planning
 pub mod Rests
 pub mod Finding

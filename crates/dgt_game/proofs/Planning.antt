@@ -9,9 +9,13 @@ use Rattle.dgt_chess.specs.{declared.{pieces.Colour.{Colour}, possible.{Impossib
 use Rattle.{dgt_chess.specs.{Possible.{HasNoStray, HasPassed, HasRights, IsPossible, Refuses}, Rules.{board}}, dgt_game.specs.declared.event.{Event.{Event}, GameResult.{GameResult}}}
 use Rattle.dgt_game.specs.declared.{memory.Memory.{Memory}, node.{Node.{Node}, Origin.{Origin}, Place.{Place}, Step.{Step}}, recogniser.{Over.{Over}, Recogniser.{Recogniser}, Search.{Search}}}
 use Rattle.dgt_game.specs.{declared.{resting.Next.{Next}, view.View.{View}}, Told.{as_shown}, Memory.{steps}, Waiting.{last_of}, Planning.{HasNothing, IsPlanned, IsRefused, Lacks, LacksSome}}
-use Rattle.dgt_game.specs.Planning.{ElseMayBegin, InTurnIsNotRefused, LiftedIsGone, LostIsReported, NothingFits, OneFits, PossibleIsHopeful}
+use Rattle.dgt_game.specs.Planning.{ElseMayBegin, FarIsCounted, InTurnIsNotRefused, IsFar, IsFarFrom, LiftedIsGone, MovingBothIsSettingUp, SetsUp, differing, LostIsReported, NothingFits, OneFits, PossibleIsHopeful}
 use Rattle.dgt_game.specs.Planning.{Plans, RestsAt, RestsBy, StaysPlaced, WhyHopeless, of_kings, of_place, of_search, todo}
-use Rattle.dgt_game.proofs.{Chains.{get_step}, Standing.{some_of}}
+use Rattle.dgt_game.specs.Results.{StandsAs}
+use Rattle.dgt_game.proofs.{Chains.{get_step}, Standing.{some_of}, Waiting.{three_bad}}
+
+abbrev pub over_of : Recogniser → Over
+over_of self = self.over
 
 -- ---- Pieces that are gone
 
@@ -213,10 +217,48 @@ is_false : (b : Bool) → ¬ (b ≡ true) → b ≡ false
 is_false true other = absurd (other refl)
 is_false false other = refl
 
+not_both : (b : Bool) (P : Type 0) → ¬ ((b ≡ true) × P) → (b ≡ false) ⊎ ¬ P
+not_both true P none = inr (λ p. none (refl, p))
+not_both false P none = inl refl
+
 pub else_may_begin : ElseMayBegin
 else_may_begin self = (
   λ h may. search rules,
-  λ none. search (rules, is_false),
+  λ none. (
+    λ line. none (inl line),
+    λ over. none (inr (inl over)),
+    is_false self.is_set_up (λ set. none (inr (inr (inl set)))),
+    not_both self.is_behind (IsFar self) (λ far. none (inr (inr (inr far)))),
+  ),
+)
+
+pub far_is_counted : FarIsCounted
+unfolding IsFarFrom
+far_is_counted self view step seen last = (
+  λ (shown, is, (other, at, many)).
+      let same : shown ≡ view = cc in
+      let one : other ≡ step = cc in
+      subst (λ (v : View). 24 < differing (as_shown step.is_turned (pieces_of v.shown))
+      (board step.state)) same (subst (λ (s : Step). 24 < differing (as_shown s.is_turned
+      (pieces_of shown.shown)) (board s.state)) one many),
+  λ many. (view, seen, (step, last, many)),
+)
+
+-- the same is set up if the line stays
+pub sets_up_same : (old new : Recogniser) (view : View) → new.memory.line ≡ old.memory.line
+    → over_of new ≡ over_of old → SetsUp old view → SetsUp new view
+sets_up_same old new view line over (off, inl none) = (off, inl (over ∙ none))
+sets_up_same old new view line over (off, inr other) =
+    (off, inr (λ almost. other (rw line at almost)))
+
+pub moving_sets_up : MovingBothIsSettingUp
+moving_sets_up self view step first second third last off one two three xy xz yz = (
+  off,
+  inr (λ almost.
+      let (a, b, all) = rw last at almost in
+      let fits : ℕ → Type 0 =
+      StandsAs (as_shown step.is_turned (pieces_of view.shown)) (board step.state) in
+      three.1 (three_bad fits a b first second third all one.0 two.0 three.0 xy xz yz one.1 two.1)),
 )
 
 pub lifted_is_gone : LiftedIsGone

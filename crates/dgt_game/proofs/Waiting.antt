@@ -3,7 +3,7 @@ use Rattle.std.specs.Prelude.{IsTrue, is_some}
 use Rattle.dgt_game.specs.Waiting.{EndsByRules, MustEnd}
 use Rattle.dgt_game.specs.declared.node.Way.{Way}
 use Rattle.dgt_chess.specs.Rules.{CanMove}
-use Rattle.std.{proofs.Common.{rules, ◌≡◌, ◌≢◌, ◌+◌, ◌-◌, ◌++◌, ◌<◌, ◌⊎◌, refl, arith, below_more, ℕ, zero, suc, Bool, true, false, List, [], ◌∷◌, Option, Some, None}, specs.Prelude.{slice_get}}
+use Rattle.std.{proofs.Common.{rules, ◌≡◌, ◌≢◌, ◌+◌, ◌-◌, ◌++◌, ◌<◌, ◌⊎◌, ◌∙◌, inl, inr, sym, refl, arith, below_more, ℕ, zero, suc, Bool, true, false, List, [], ◌∷◌, Option, Some, None}, specs.Prelude.{slice_get}}
 use Rattle.{std.{specs.{Prelude.{IfSome}, Option.{option_or}}, proofs.lemmas.Option.{none-some}}, dgt_values.specs.declared.pieces.Piece.{Piece}, dgt_chess.specs.Attacks.{piece_at}}
 use Rattle.dgt_game.specs.declared.{event.{GameResult.{GameResult}, Event.{Event}}, memory.Memory.{Memory}, recogniser.{Over.{Over}, Lost.{Lost}}, node.{Node.{Node}, Step.{Step}}}
 use Rattle.dgt_game.specs.{declared.{recogniser.Recogniser.{Recogniser}, view.View.{View}}, Memory.{steps, tip}, Results.{ByRules, FitsAt}, Waiting.{EndsBy, IsOfLine, IsRight, LostBy, Show, coming}}
@@ -107,6 +107,82 @@ fitting_but picture pieces at has_other none h = (
     search rules,
   ),
 )
+
+-- two squares that don't fit leave no third
+third_is : (fits : ℕ → Type 0) (a b first second third : ℕ)
+    → ((k : ℕ) → k < 64 → k ≢ a → k ≢ b → fits k) → first < 64 → second < 64 → first ≢ second
+    → first ≢ third → second ≢ third → ¬ (fits first) → ¬ (fits second)
+    → (third ≡ a) ⊎ (third ≡ b) → ⊥
+third_is fits a b first second third h x y xy xz yz bad worse (inl e) =
+    bad (h first x (λ is. xz (is ∙ sym e)) (λ is. worse (h second y (λ at. yz (at ∙ sym e))
+    (λ at. xy (is ∙ sym at)))))
+third_is fits a b first second third h x y xy xz yz bad worse (inr e) =
+    bad (h first x (λ is. worse (h second y (λ at. xy (is ∙ sym at)) (λ at. yz (at ∙ sym e))))
+    (λ is. xz (is ∙ sym e)))
+
+-- the last squares but two that don't fit, so far
+abbrev pub Almost : (ℕ → Type 0) → ℕ → Option ℕ → Option ℕ → Type 0
+Almost fits at None other = (other ≡ None) × ((k : ℕ) → k < at → fits k)
+Almost fits at (Some one) None =
+    (one < at) × ¬ (fits one) × ((k : ℕ) → k < at → k ≢ one → fits k)
+Almost fits at (Some one) (Some other) =
+    (one < at) × (other < one) × ¬ (fits one) × ¬ (fits other)
+    × ((k : ℕ) → k < at → k ≢ one → k ≢ other → fits k)
+
+pub almost_more : (fits : ℕ → Type 0) (at : ℕ) (one other : Option ℕ) → fits at
+    → Almost fits at one other → Almost fits (at + 1) one other
+almost_more fits at None other is (none, h) = (none, below_more (λ k. fits k) at h is)
+almost_more fits at (Some one) None is (less, bad, h) =
+    (omega (arith, less), bad, below_more (λ k. k ≢ one → fits k) at h (λ differs. is))
+almost_more fits at (Some one) (Some other) is (less, more, bad, worse, h) = (
+  omega (arith, less),
+  more,
+  bad,
+  worse,
+  below_more (λ k. k ≢ one → k ≢ other → fits k) at h (λ differs moves. is),
+)
+
+pub almost_but : (fits : ℕ → Type 0) (at : ℕ) (one : Option ℕ) → ¬ (fits at)
+    → Almost fits at one None → Almost fits (at + 1) (Some at) one
+almost_but fits at None bad (none, h) = (
+  omega arith,
+  bad,
+  below_more (λ k. k ≢ at → fits k) at (λ k less differs. h k less)
+      (λ differs. absurd (differs refl)),
+)
+almost_but fits at (Some one) bad (less, worse, h) = (
+  omega arith,
+  less,
+  bad,
+  worse,
+  below_more (λ k. k ≢ at → k ≢ one → fits k) at (λ k l differs moves. h k l moves)
+      (λ differs. absurd (differs refl)),
+)
+
+-- at the end there are two squares at most
+pub almost_all : (fits : ℕ → Type 0) (one other : Option ℕ) → Almost fits 64 one other
+    → (a : ℕ) × (b : ℕ) × ((k : ℕ) → k < 64 → k ≢ a → k ≢ b → fits k)
+almost_all fits None other (none, h) = (0, 0, λ k less differs moves. h k less)
+almost_all fits (Some one) None (less, bad, h) = (one, one, λ k l differs moves. h k l differs)
+almost_all fits (Some one) (Some other) (less, more, bad, worse, h) = (one, other, h)
+
+-- a third one is too many
+pub three_bad : (fits : ℕ → Type 0) (a b first second third : ℕ)
+    → ((k : ℕ) → k < 64 → k ≢ a → k ≢ b → fits k) → first < 64 → second < 64 → third < 64
+    → first ≢ second → first ≢ third → second ≢ third → ¬ (fits first) → ¬ (fits second)
+    → fits third
+three_bad fits a b first second third h x y z xy xz yz bad worse =
+    h third z (λ e. third_is fits a b first second third h x y xy xz yz bad worse (inl e))
+    (λ e. third_is fits a b first second third h x y xy xz yz bad worse (inr e))
+
+pub almost_none : (fits : ℕ → Type 0) (at : ℕ) (one : Option ℕ) (other : ℕ) → at < 64
+    → ¬ (fits at) → Almost fits at one (Some other)
+    → ¬ ((a : ℕ) × (b : ℕ) × ((k : ℕ) → k < 64 → k ≢ a → k ≢ b → fits k))
+almost_none fits at None other within bad (none, h) = absurd (let wrong : ⊥ = cc in wrong)
+almost_none fits at (Some one) other within bad (less, more, worse, worst, h) = λ (a, b, all).
+    bad (three_bad fits a b one other at all (omega (arith, less)) (omega (arith, less, more)) within
+    (λ e. let l = less in let m = more in omega (arith, m, e)) (λ e. omega (arith, less, e))
+    (λ e. omega (arith, less, more, e)) worse worst)
 
 -- what was found of a piece on the squares so far
 abbrev pub FoundOn : List Piece → Piece → ℕ → Option ℕ → Type 0

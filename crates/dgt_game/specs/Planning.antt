@@ -1,7 +1,7 @@
 -- What is done next with what the board shows, or why nothing is.
-use Rattle.std.specs.Prelude.{⊤, ◌≡◌, ◌≢◌, ◌<◌, ◌≤◌, ◌↔◌, ◌⊎◌, ◌+◌, ℕ, Bool, true, false, List, [], IsTrue, MatchOption, Option, Some, None, slice_get}
+use Rattle.std.specs.Prelude.{⊤, ◌≡◌, ◌≢◌, ◌<◌, ◌≤◌, ◌↔◌, ◌⊎◌, ◌+◌, ℕ, Bool, true, false, List, [], IsTrue, MatchOption, count_by, nat_eq, not, zip, Option, Some, None, slice_get}
 use Rattle.dgt_values.specs.declared.pieces.Piece.{Piece}
-use Rattle.dgt_values.specs.Board.{pieces_of}
+use Rattle.dgt_values.specs.Board.{pieces_of, piece_code}
 use Rattle.dgt_chess.specs.declared.possible.Rights.{Rights}
 use Rattle.dgt_chess.specs.declared.state.State.{State}
 use Rattle.dgt_chess.specs.declared.pieces.Colour.{Colour}
@@ -22,6 +22,7 @@ use Rattle.dgt_game.specs.declared.resting.Task.{Task}
 use Rattle.dgt_game.specs.declared.view.View.{View}
 use Rattle.dgt_game.specs.Told.{as_shown}
 use Rattle.dgt_game.specs.Memory.{IsTold, steps}
+use Rattle.dgt_game.specs.Results.{IsAlmost, StandsAs}
 use Rattle.dgt_game.specs.Waiting.{IsQuiet, Show, last_of}
 
 -- each square shows the state's piece, or is empty
@@ -50,11 +51,38 @@ Lacks view memory back =
 abbrev pub IsLifted : Recogniser → Type 0
 IsLifted self = Lacks self.view self.memory self.returned.count
 
--- no line begins with what is shown, however long it rests: the one before has ended
+-- how many squares show other pieces
+abbrev pub differing : List Piece → List Piece → ℕ
+differing picture pieces =
+    count_by (λ pair. not (nat_eq (piece_code pair.0) (piece_code pair.1))) (zip picture pieces)
+
+-- more than 24 squares of what is shown differ from the line's last state
+unfoldable pub IsFarFrom : Option View → Option Step → Type 0
+IsFarFrom view last =
+    (shown : View) × (view ≡ Some shown) × ((step : Step) × (last ≡ Some step)
+    × (24 < differing (as_shown step.is_turned (pieces_of shown.shown)) (board step.state)))
+
+abbrev pub IsFar : Recogniser → Type 0
+IsFar self = IsFarFrom self.view (last_of self.memory)
+
+-- No line begins with what is shown, however long it rests: the one before has ended, and nothing
+-- was set up. After a doubt, what is shown is near its last state.
 abbrev pub MayNotBegin : Recogniser → Type 0
 MayNotBegin self =
     (self.memory.line.items ≢ []) × (self.over ≢ Over.No) × (self.is_set_up ≡ false)
-    × (self.is_behind ≡ false)
+    × ((self.is_behind ≡ false) ⊎ ¬ (IsFar self))
+
+-- the board shows almost the line's last state
+abbrev pub IsAlmostLast : Memory → View → Type 0
+IsAlmostLast self view =
+    MatchOption (last_of self) ⊥ (λ step. IsAlmost (as_shown step.is_turned (pieces_of view.shown))
+    (board step.state))
+
+-- a square outside the centre shows another piece than the state, which isn't a king there
+abbrev pub IsOther : View → Step → ℕ → Type 0
+IsOther view step square =
+    (square < 64) × ¬ (StandsAs (as_shown step.is_turned (pieces_of view.shown))
+    (board step.state) square)
 
 -- what may be done with what is shown
 abbrev pub TaskFits : Recogniser → Task → Type 0
@@ -84,14 +112,17 @@ search_wait true = 320
 search_wait false = 1000
 
 -- How long a position that nothing leads to rests before a line begins with it: a second if there
--- is no line yet. Else it is five if pieces were set up or something wasn't seen, or a minute.
+-- is no line yet. Else it is five if pieces were set up or something wasn't seen, or a minute. After
+-- a result, one begins only with a set-up or, if something wasn't seen, far from the last state.
 abbrev pub BeginsAfter : Recogniser → ℕ → Type 0
 BeginsAfter self wait =
     (self.memory.line.items ≡ [] → wait ≡ 1000)
-    × (self.memory.line.items ≢ [] → (self.is_set_up ≡ true) ⊎ (self.is_behind ≡ true)
-    → wait ≡ 5000)
+    × (self.memory.line.items ≢ [] → (self.is_set_up ≡ true) ⊎ ((self.is_behind ≡ true)
+    × ((self.over ≡ Over.No) ⊎ IsFar self)) → wait ≡ 5000)
     × (self.memory.line.items ≢ [] → self.is_set_up ≡ false → self.is_behind ≡ false
     → (wait ≡ 60000) × (self.over ≡ Over.No))
+    × (self.memory.line.items ≢ [] → self.over ≢ Over.No
+    → (self.is_set_up ≡ true) ⊎ ((self.is_behind ≡ true) × IsFar self))
 
 -- How long half-moves that follow a state of the line rest before they are reported: 3 s if they
 -- replace others than the last one, unless the board has gone back over these.
@@ -218,15 +249,39 @@ InTurnIsNotRefused =
     × (board state ≡ as_shown is_turned (pieces_of view.shown)) × (state.turn ≡ turn))
     → self.search ≢ Search.Refused
 
--- a line may begin: there is none, the last one has no result, pieces were set up, or the board was
--- away or in doubt
+-- A line may begin: there is none, the last one has no result, pieces were set up, or the board was
+-- away or in doubt and shows what is far from the last state.
 abbrev pub MayBegin : Recogniser → Type 0
 MayBegin self =
     (self.memory.line.items ≡ []) ⊎ (self.over ≡ Over.No) ⊎ (self.is_set_up ≡ true)
-    ⊎ (self.is_behind ≡ true)
+    ⊎ ((self.is_behind ≡ true) × IsFar self)
 
 abbrev pub ElseMayBegin : Type 0
 ElseMayBegin = (self : Recogniser) → MayNotBegin self ↔ (¬ (MayBegin self))
+
+-- What counts as setting pieces up: both kings are off, and the line has no result, or more than two
+-- squares differ from its last state, besides kings and the centre.
+abbrev pub SetsUp : Recogniser → View → Type 0
+SetsUp self view =
+    ((colour : Colour) → ¬ (HasKing (pieces_of view.shown) colour))
+    × ((self.over ≡ Over.No) ⊎ ¬ (IsAlmostLast self.memory view))
+
+-- With both kings off, three squares outside the centre that show other pieces are a set-up.
+abbrev pub MovingBothIsSettingUp : Type 0
+MovingBothIsSettingUp =
+    (self : Recogniser) (view : View) (step : Step) (first second third : ℕ)
+    → last_of self.memory ≡ Some step
+    → ((colour : Colour) → ¬ (HasKing (pieces_of view.shown) colour))
+    → IsOther view step first → IsOther view step second → IsOther view step third
+    → first ≢ second → first ≢ third → second ≢ third → SetsUp self view
+
+-- It is far exactly if more than 24 squares differ from the last state.
+abbrev pub FarIsCounted : Type 0
+FarIsCounted =
+    (self : Recogniser) (view : View) (step : Step) → self.view ≡ Some view
+    → last_of self.memory ≡ Some step
+    → IsFar self ↔ (24 < differing (as_shown step.is_turned (pieces_of view.shown))
+    (board step.state))
 
 -- Nothing is lifted if each known position stands whole, or another piece is shown somewhere.
 abbrev pub LiftedIsGone : Type 0

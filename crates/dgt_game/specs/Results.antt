@@ -53,7 +53,13 @@ FitsAt picture pieces square =
     ⊎ (piece_at picture square ≡ piece_at pieces square)
     ⊎ (piece_at picture square ≡ Piece.Empty)
 
--- the same of the whole board, but for one square
+-- the same, but pieces that are gone count
+abbrev pub StandsAs : List Piece → List Piece → ℕ → Type 0
+StandsAs picture pieces square =
+    IsKing (piece_at pieces square) ⊎ IsCentre square
+    ⊎ (piece_at picture square ≡ piece_at pieces square)
+
+-- the first of these of the whole board, but for one square
 abbrev pub IsLike : List Piece → List Piece → Type 0
 IsLike picture pieces =
     (other : ℕ) × ((square : ℕ) → square < 64 → square ≢ other → FitsAt picture pieces square)
@@ -71,6 +77,11 @@ Explains picture pieces = (square : ℕ) → square < 64 → ExplainsAt picture 
 abbrev pub EndsShown : List Piece → State → Type 0
 EndsShown picture state =
     (result : GameResult) × KingsMean picture result × Explains picture (board state)
+-- Kings and the centre don't count: elsewhere but on two squares, the picture shows these pieces.
+abbrev pub IsAlmost : List Piece → List Piece → Type 0
+IsAlmost picture pieces =
+    (one : ℕ) × (other : ℕ) × ((square : ℕ) → square < 64 → square ≢ one → square ≢ other
+    → StandsAs picture pieces square)
 
 -- the players show the result of the state
 abbrev pub ByKings : List Piece → State → GameResult → Type 0

@@ -21,7 +21,7 @@ use Rattle.dgt_game.specs.declared.recogniser.Search.{Search}
 use Rattle.dgt_game.specs.declared.resting.Task.{Task}
 use Rattle.dgt_game.specs.Memory.{IsTold, steps}
 use Rattle.dgt_game.specs.declared.view.View.{View}
-use Rattle.dgt_game.specs.Planning.{HasKing, IsLifted, IsPlanned, IsSettled, RestsBefore, TaskFits}
+use Rattle.dgt_game.specs.Planning.{HasKing, IsFar, IsLifted, IsPlanned, IsSettled, RestsBefore, TaskFits}
 use Rattle.dgt_game.specs.Results.{IsCentre, IsKing}
 use Rattle.dgt_game.specs.Standing.{IsThere, Lands, ShowsAs, ShowsBut, ShowsLast, Stands}
 use Rattle.dgt_game.specs.Timing.{Due, IsIdle, IsNext}
@@ -159,10 +159,11 @@ HasGoneBack count self =
     (count ≢ 0) × (self.returned.count ≡ count) × (self.returned.is_sure ≡ true)
 
 -- The line's last state is shown for sure: what was seen since counts as not made, no king as
--- lifted and no doubt as left, and a line that was lost is found.
+-- lifted, nothing as set up and no doubt as left, and a line that was lost is found.
 abbrev pub StandsAnew : Recogniser → Type 0
 StandsAnew self =
     (self.memory.seen.items ≡ []) × (self.is_behind ≡ false) × (self.is_astray ≡ false)
+    × (self.is_set_up ≡ false)
     × (self.is_white_king_lifted ≡ false) × (self.is_black_king_lifted ≡ false)
     × (self.lost ≢ Lost.Reported)
 
@@ -176,11 +177,11 @@ RemembersDoubt old new =
     ((new.is_behind ≡ old.is_behind) × (new.is_astray ≡ old.is_astray)) ⊎ IsSureOfLast new
 
 -- Nothing leads to what is shown, though it has rested for 320 ms and no pieces are lifted. Once a
--- line has a result, that counts only after a doubt.
+-- line has a result, that counts only after a doubt, and far from its last state.
 abbrev pub IsUnexplained : ℕ → Recogniser → Type 0
 IsUnexplained now self =
     (self.here ≡ Place.Nowhere) × (self.since + 320 ≤ now)
-    × ((self.is_behind ≡ true) ⊎ (self.over ≡ Over.No)) × ¬ (IsLifted self)
+    × ((self.over ≡ Over.No) ⊎ ((self.is_behind ≡ true) × IsFar self)) × ¬ (IsLifted self)
 
 -- both kings stand, and none of them in the centre
 abbrev pub KingsStand : List Piece → Type 0

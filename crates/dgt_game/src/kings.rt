@@ -12,12 +12,14 @@ ghost use Rattle.dgt_game.specs.declared.event.GameResult.{GameResult};
 ghost use Rattle.dgt_chess.specs.declared.state.Move.{Move};
 ghost use Rattle.dgt_game.specs.Unseen.{OnlyExplains};
 ghost use Rattle.dgt_game.specs.Memory.{step_at, steps};
-ghost use Rattle.dgt_game.specs.Results.{ByKings, Explains, FitsAt, IsCentre, IsLike, IsOnlyOn, KingsMean};
+ghost use Rattle.dgt_game.specs.Results.{ByKings, Explains, FitsAt, IsAlmost, IsCentre, IsLike, IsOnlyOn, KingsMean, StandsAs};
+ghost use Rattle.dgt_game.specs.Planning.{differing};
 ghost use Rattle.dgt_game.specs.Told.{Told, as_shown};
 
 use crate::event::GameResult;
 use crate::node::{Node, Place, Way};
 use crate::recogniser::{Over, Recogniser};
+use crate::times::FAR;
 use crate::unseen::{Found, explaining, explains};
 use crate::view::{View, only_square};
 use crate::ways::is_same;
@@ -29,8 +31,8 @@ impl Recogniser {
     ghost use Rattle.dgt_game.specs.Standing.{IsOpen, Stands};
     ghost use Rattle.dgt_game.specs.Sure.{WasSure, WereSure};
     ghost use Rattle.dgt_game.specs.Finding.{FindsLater};
-    ghost use Rattle.dgt_game.specs.Planning.{AddsNone, todo, IsLostOr, WhyHopeless};
-    ghost use Rattle.dgt_game.specs.Waiting.{BothKingsMean, Follows, IsQuiet, Keeps, Waits, coming, stays_lost};
+    ghost use Rattle.dgt_game.specs.Planning.{AddsNone, IsAlmostLast, IsFar, todo, IsLostOr, WhyHopeless};
+    ghost use Rattle.dgt_game.specs.Waiting.{BothKingsMean, Follows, IsQuiet, Keeps, Waits, coming, last_of, stays_lost};
 
     /// Looks whether both kings were lifted since the line's last state, and stand on squares that
     /// give a result, while everything else stands as in a known state.
@@ -62,6 +64,40 @@ impl Recogniser {
         self.is_black_king_lifted = self.is_black_king_lifted || is_away(Piece::BlackKing);
         if self.is_white_king_lifted && self.is_black_king_lifted {
             self.has_kings = self.kings_result(view).is_some();
+        }
+    }
+
+    /// Whether more squares than `FAR` show another piece than the line's last state.
+    pub(crate) fn is_far(&self) -> bool
+        ensures { IsTrue result ↔ IsFar self.now }
+    {
+        match self.view {
+            Some(view) => self.is_far_from_last(&view),
+            None => false,
+        }
+    }
+
+    fn is_far_from_last(&self, view: &View) -> bool
+        ensures { IsTrue result ↔ MatchOption (last_of self.now.memory) ⊥ (λ step. 24
+            < differing (as_shown step.is_turned (pieces_of view.now.shown)) (board step.state)) }
+    {
+        match self.memory.line.get(0) {
+            Some(last) => {
+                let shown = view.from(last.step.is_turned);
+                count_differing(shown, last.step.state.position()) > FAR
+            }
+            None => false,
+        }
+    }
+
+    /// Whether the board shows the line's last state, but for the kings, the centre and two
+    /// squares.
+    pub(crate) fn is_as_last(&self, view: &View) -> bool
+        ensures { IsTrue result ↔ IsAlmostLast self.now.memory view.now }
+    {
+        match self.memory.line.get(0) {
+            Some(last) => is_almost(view.from(last.step.is_turned), last.step.state.position()),
+            None => false,
         }
     }
 
@@ -253,6 +289,41 @@ fn result_of(white: u8, black: u8) -> Option<GameResult>
         (28, 36) | (36, 28) | (27, 35) | (35, 27) => Some(GameResult::Draw),
         _ => None,
     }
+}
+
+// How many squares show other pieces.
+fn count_differing(shown: &Position, position: &Position) -> u32
+    ensures { result ≡ differing (pieces_of shown.now) (pieces_of position.now) }
+{
+    shown.differ(position).count_ones()
+}
+
+// Whether a picture shows a position, but for the kings, the centre and two squares.
+fn is_almost(shown: &Position, position: &Position) -> bool
+    ensures { IsTrue result ↔ IsAlmost (pieces_of shown.now) (pieces_of position.now) }
+{
+    let mut one = None;
+    let mut other = None;
+    for at in 0..64u8 {
+        if !stands_as(shown, position, at) {
+            if other.is_some() {
+                return false;
+            }
+            other = one;
+            one = Some(at);
+        }
+    }
+    true
+}
+
+fn stands_as(shown: &Position, position: &Position, at: u8) -> bool
+    requires { at < 64 }
+    ensures { IsTrue result ↔ StandsAs (pieces_of shown.now) (pieces_of position.now) at }
+{
+    let square = Square::from_small(at);
+    let piece = position.get(square);
+    let is_king = is_same(piece, Piece::WhiteKing) || is_same(piece, Piece::BlackKing);
+    is_king || is_centre(at) || is_same(shown.get(square), piece)
 }
 
 // Whether the board shows a state, but for the kings, the centre, pieces that are gone, and one

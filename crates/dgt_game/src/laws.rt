@@ -8,7 +8,7 @@ ghost use Rattle.dgt_game.specs.declared.recogniser.Recogniser.{Recogniser};
 ghost use Rattle.dgt_game.specs.Filed.{AllIsFile, AskedStays, AsksAreLegal, CorrectionsKeepNothing, EndedIsKept, NoLineIsDeleted, OneBegins, WholeIsKept};
 ghost use Rattle.dgt_game.specs.Finding.{IsFound, MovedIsSearched, SearchIsDue, WhatFollowsIsFound};
 ghost use Rattle.dgt_game.specs.Laws.{BackIsCounted, EndIsShown, JoinedIsOne, LegalIsJoined, NoneAndOne, OneIsShown, OneLine, OthersAreHeld, SeveralAreShown, ShownIsHeld, StartIsShown, UnseenIsOnly};
-ghost use Rattle.dgt_game.specs.Planning.{ElseMayBegin, InTurnIsNotRefused, IsLostOr, IsPlanned, LiftedIsGone, LostIsReported, NothingFits, OneFits, PossibleIsHopeful, WhyHopeless};
+ghost use Rattle.dgt_game.specs.Planning.{ElseMayBegin, FarIsCounted, InTurnIsNotRefused, IsLostOr, IsPlanned, LiftedIsGone, LostIsReported, MovingBothIsSettingUp, NothingFits, OneFits, PossibleIsHopeful, WhyHopeless};
 ghost use Rattle.dgt_game.specs.Reading.{EarlierAreKnown, ElseStartIsKnown, IsExplained, LiveForTen, LiveHasBegun, ManHasMoved, MovesAreKnown, RepeatsInPlace, RepetitionIsRead, SeenIsFollowed, StartIsKnown, TwoAreKnown, TwoToFourAreSome};
 ghost use Rattle.dgt_game.specs.declared.node.{Place.{Place}, Step.{Step}};
 ghost use Rattle.dgt_game.specs.Memory.{step_at, steps};
@@ -25,8 +25,8 @@ ghost use Rattle.dgt_game.specs.Waiting.{CallsFollowOn, IsQuiet, ResultIsFound, 
 
 use crate::event::GAP;
 use crate::times::{
-    AT_ONCE, CASTLE, FINAL, FIRST, GLANCE, HANDS, JUMP, KEPT, KINGS, LONG, NEAR, NEW, NEW_STILL,
-    PRESS, REPLACE, ROOTS, SEEN, SETTLE, SHADOW, STAYS,
+    AT_ONCE, CASTLE, FAR, FINAL, FIRST, GLANCE, HANDS, JUMP, KEPT, KINGS, LONG, NEAR, NEW,
+    NEW_STILL, PRESS, REPLACE, ROOTS, SEEN, SETTLE, SHADOW, STAYS,
 };
 
 /// What is reported is legal and was shown, over whole runs.
@@ -206,6 +206,7 @@ pub fn limits()
     ensures seen { SEEN ≡ 24 }
     ensures roots { ROOTS ≡ 8 }
     ensures gap { GAP ≡ 4 }
+    ensures far { FAR ≡ 24 }
 {}
 
 /// How games end, by the rules and by kings.
@@ -224,6 +225,8 @@ pub fn how_games_end()
 /// When a line begins or kings give a result, and after which rest.
 pub fn when_lines_begin()
     ensures may { ElseMayBegin }
+    ensures set_up { MovingBothIsSettingUp }
+    ensures counted { FarIsCounted }
     ensures rested { BeginningHasRested }
     ensures kings { KingsHaveRested }
     ensures taken { KingsAreTaken }

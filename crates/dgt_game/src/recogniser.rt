@@ -7,7 +7,7 @@ ghost use Rattle.dgt_chess.specs.Attacks.{piece_at, piece_of};
 ghost use Rattle.dgt_chess.specs.declared.pieces.Man.{Man};
 ghost use Rattle.dgt_game.specs.declared.node.Place.{Place};
 ghost use Rattle.dgt_game.specs.declared.reading.Reading.{Reading};
-ghost use Rattle.dgt_game.specs.declared.recogniser.Search.{Search};
+ghost use Rattle.dgt_game.specs.declared.recogniser.{Over.{Over}, Search.{Search}};
 ghost use Rattle.dgt_game.specs.Planning.{LacksOnly, LacksSome};
 ghost use Rattle.dgt_game.specs.declared.view.View.{View};
 ghost use Rattle.dgt_game.specs.Results.{IsCentre, IsKing};
@@ -100,7 +100,7 @@ pub struct Recogniser {
 impl Recogniser {
     ghost use Rattle.dgt_game.specs.Memory.{Holds, IsTold, Reads, steps, told_of};
     ghost use Rattle.dgt_game.specs.Finding.{IsFound};
-    ghost use Rattle.dgt_game.specs.Planning.{AddsNone, IsLifted, IsPlanned, HasKing, IsLostOr, PlacesOr, WhyHopeless};
+    ghost use Rattle.dgt_game.specs.Planning.{AddsNone, IsAlmostLast, IsLifted, IsPlanned, SetsUp, HasKing, IsLostOr, PlacesOr, WhyHopeless};
     ghost use Rattle.dgt_game.specs.Reading.{HasLine, IsExplained, IsRepeated, RepeatsInPlace, TakesFewBack, HasRoom, IsLive, IsRoomFor, ReadsView, FollowsSeen, IsKnown, IsRead};
     ghost use Rattle.dgt_game.specs.Recogniser.{GoesOn, Knows, Sees, last_state, new_recogniser, picture_of, pictured};
     ghost use Rattle.dgt_game.specs.Reading.{ReadsView, Shows};
@@ -180,6 +180,11 @@ impl Recogniser {
             → FollowsSeen self.old.memory (pieces_of view.shown)
             → self.new.here ≢ Place.Nowhere }
         ensures repeated { RepeatsInPlace self.old → RepeatsInPlace self.new }
+        ensures set_up { self.new.is_set_up ≡ true
+            → (self.old.is_set_up ≡ true) ⊎ MatchOption self.new.view ⊥ (SetsUp self.new) }
+        ensures sets_up { IsOk result → self.new.view ≢ self.old.view
+            → IfSome self.new.view (λ view. SetsUp self.new view
+            → self.new.is_set_up ≡ true) }
         ensures sight { IsOk result → SeesSure self.old observation.now.sight self.new }
         ensures running { IsOk result → self.new.running ≡ observation.now.running }
         ensures sure_since { self.old.is_sure ≡ true → self.new.sure_since ≡ self.old.sure_since }
@@ -287,6 +292,7 @@ impl Recogniser {
         ensures behind { self.new.is_behind ≡ self.old.is_behind }
         ensures astray { (self.new.is_astray ≡ true)
             ↔ ((self.old.is_astray ≡ true) ⊎ GoesAstray now self.old) }
+        ensures set_up { self.new.is_set_up ≡ self.old.is_set_up }
     {
         let is_unexplained = self.is_unexplained(now);
         self.is_astray = self.is_astray || is_unexplained && self.do_kings_stand();
@@ -325,7 +331,7 @@ impl Recogniser {
     {
         self.here == Place::Nowhere
             && now.saturating_sub(self.since) >= GLANCE
-            && (self.is_behind || self.over == Over::No)
+            && (self.over == Over::No || self.is_behind && self.is_far())
             && !self.is_lifted()
     }
 
@@ -349,6 +355,9 @@ impl Recogniser {
             → Holds shown line self.old.memory → Knows shown line self.new }
         ensures ended { self.new.ended ≡ self.old.ended }
         ensures loss { FindsLine self.old self.new }
+        ensures set_up { IfSome view (λ view. SetsUp self.new view → self.new.is_set_up ≡ true) }
+        ensures kept_up { self.new.is_set_up ≡ true
+            → (self.old.is_set_up ≡ true) ⊎ MatchOption view ⊥ (SetsUp self.new) }
         ensures repeated { RepeatsInPlace self.new }
         ensures lost { has_notice self.old.lost ≡ false → LostWaits self.new }
         ensures follows { Follows self.old None self.new }
@@ -426,18 +435,29 @@ impl Recogniser {
             → WereSure sure self.old.memory self.old.returned
             → WereSure sure self.new.memory self.new.returned }
         ensures behind { RemembersDoubt self.old self.new }
-        ensures set_up { ((colour : Colour) → ¬ (HasKing (pieces_of view.now.shown) colour))
-            → self.new.is_set_up ≡ true }
+        ensures set_up { SetsUp self.old view.now → self.new.is_set_up ≡ true }
+        ensures kept_up { self.new.is_set_up ≡ true
+            → (self.old.is_set_up ≡ true) ⊎ SetsUp self.old view.now }
     {
         let has_white = self.has_king(view, Colour::White);
         let has_black = self.has_king(view, Colour::Black);
-        self.is_set_up = self.is_set_up || !has_white && !has_black;
+        let is_new = self.sets_up(view, has_white, has_black);
+        self.is_set_up = self.is_set_up || is_new;
         if has_white && has_black {
             self.search = Search::Waiting;
         }
         let reading = self.read_by_kings(view, has_white, has_black);
         self.look_at_kings(view);
         self.take(reading);
+    }
+
+    // Whether pieces are set up, as both kings are off: not if the line has ended, and the board
+    // shows almost its last state. Then the kings are rather put back.
+    fn sets_up(&self, view: &View, has_white: bool, has_black: bool) -> bool
+        ensures { IsTrue result ↔ (has_white ≡ false) × (has_black ≡ false)
+            × ((self.now.over ≡ Over.No) ⊎ ¬ (IsAlmostLast self.now.memory view.now)) }
+    {
+        !has_white && !has_black && (self.over == Over::No || !self.is_as_last(view))
     }
 
     fn read_by_kings(&self, view: &View, has_white: bool, has_black: bool) -> Reading
@@ -473,6 +493,7 @@ impl Recogniser {
         ensures view { self.new.view ≡ self.old.view }
         ensures keeps { Keeps self.old self.new }
         ensures loss { FindsLine self.old self.new }
+        ensures kept_up { self.new.is_set_up ≡ true → self.old.is_set_up ≡ true }
         ensures there { (k : ℕ) → 1 ≤ k → self.new.here ≡ Place.Line k
             → reading ≡ Reading.At (Place.Line k) }
         ensures answers { IsOpen self.old.memory → IsAnswered self.new.memory }
@@ -522,6 +543,7 @@ impl Recogniser {
         ensures view { self.new.view ≡ self.old.view }
         ensures keeps { Keeps self.old self.new }
         ensures loss { FindsLine self.old self.new }
+        ensures kept_up { self.new.is_set_up ≡ true → self.old.is_set_up ≡ true }
         ensures there { self.new.here ≡ Place.Line k }
         ensures answers { IsOpen self.old.memory → IsAnswered self.new.memory }
         ensures doubt { self.old.is_sure ≡ false → IsQuiet self.old → IsQuiet self.new }
@@ -551,6 +573,7 @@ impl Recogniser {
         self.memory.forget_seen();
         self.is_behind = false;
         self.is_astray = false;
+        self.is_set_up = false;
         self.is_white_king_lifted = false;
         self.is_black_king_lifted = false;
         self.find();
@@ -620,6 +643,7 @@ impl Recogniser {
         ensures view { self.new.view ≡ self.old.view }
         ensures keeps { Keeps self.old self.new }
         ensures loss { FindsLine self.old self.new }
+        ensures kept_up { self.new.is_set_up ≡ true → self.old.is_set_up ≡ true }
         ensures last { (k : ℕ) → self.new.here ≡ Place.Line k → k ≡ 0 }
         ensures answers { IsOpen self.old.memory → IsAnswered self.new.memory }
         ensures doubt { self.old.is_sure ≡ false → IsQuiet self.old → IsQuiet self.new }
@@ -670,6 +694,7 @@ impl Recogniser {
         ensures view { self.new.view ≡ self.old.view }
         ensures keeps { Keeps self.old self.new }
         ensures loss { FindsLine self.old self.new }
+        ensures kept_up { self.new.is_set_up ≡ true → self.old.is_set_up ≡ true }
         ensures last { (k : ℕ) → self.new.here ≡ Place.Line k → k ≡ 0 }
         ensures answers { IsOpen self.old.memory → IsAnswered self.new.memory }
         ensures doubt { self.old.is_sure ≡ false → IsQuiet self.old → IsQuiet self.new }
@@ -707,6 +732,7 @@ impl Recogniser {
         ensures view { self.new.view ≡ self.old.view }
         ensures keeps { Keeps self.old self.new }
         ensures loss { FindsLine self.old self.new }
+        ensures kept_up { self.new.is_set_up ≡ true → self.old.is_set_up ≡ true }
         ensures last { (k : ℕ) → self.new.here ≡ Place.Line k → k ≡ 0 }
         ensures answers { IsOpen self.old.memory → IsAnswered self.new.memory }
         ensures doubt { self.old.is_sure ≡ false → IsQuiet self.old → IsQuiet self.new }

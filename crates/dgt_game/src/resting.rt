@@ -230,7 +230,7 @@ impl Recogniser {
     {
         if self.memory.line.is_empty() {
             Some(FIRST)
-        } else if self.is_set_up || self.is_behind {
+        } else if self.is_set_up || self.is_behind && (self.over == Over::No || self.is_far()) {
             Some(NEW)
         } else if self.over == Over::No {
             Some(NEW_STILL)

@@ -402,6 +402,7 @@ impl Recogniser {
         ensures sure { KeepsSure self.old self.new }
         ensures behind { self.new.is_behind ≡ self.old.is_behind }
         ensures astray { self.new.is_astray ≡ self.old.is_astray }
+        ensures set_up { self.new.is_set_up ≡ self.old.is_set_up }
     {
         let (white, black) = self.roots();
         self.memory.make_room(2);
@@ -429,6 +430,7 @@ impl Recogniser {
             → WereSure sure self.new.memory self.new.returned }
         ensures behind { self.new.is_behind ≡ self.old.is_behind }
         ensures astray { self.new.is_astray ≡ self.old.is_astray }
+        ensures set_up { self.new.is_set_up ≡ self.old.is_set_up }
     {
         if let Some(node) = root {
             self.memory.push(node);

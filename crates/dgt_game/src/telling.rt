@@ -46,6 +46,7 @@ impl Recogniser {
         ensures view { self.new.view ≡ self.old.view }
         ensures keeps { Keeps self.old self.new }
         ensures found { stays_lost self.new.lost ≡ false }
+        ensures set_up { self.new.is_set_up ≡ false }
         ensures told { (step : Step)
             → self.old.memory.back ≡ 0 → self.old.memory.unsaid.items ≡ []
             → step_at (steps self.old.memory.line.items) (steps self.old.memory.seen.items) place

@@ -51,6 +51,10 @@ pub(crate) const NEAR: usize = 4;
 /// As many half-moves that weren't reported are reported at the next one, however fast they are.
 pub(crate) const LONG: u8 = 8;
 
+/// After a result and a doubt, a position is far from the last one if more squares than these
+/// differ. An analysis mostly stays nearer.
+pub(crate) const FAR: u32 = 24;
+
 /// The states of the line that are kept: it can't be taken back further.
 pub(crate) const KEPT: usize = 16;
 

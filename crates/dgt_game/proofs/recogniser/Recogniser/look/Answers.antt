@@ -1,7 +1,8 @@
 use Rattle.{std.{proofs.Common.{◌≡◌, ◌∙◌, ◌<◌, inl, inr, Bool, [], length, ap, refl, subst, sym, true}, specs.Prelude.{◌≢◌, Contains}}, dgt_values.specs.Board.{pieces_of}}
 use Rattle.dgt_game.{specs.{declared.{memory.Memory.{Memory}, node.Place.{Place}}, Memory.{Holds, Reads}, Reading.{IsRead}}, proofs.{Known.{memory_of, view_of}, Pictures.{SomeState, king_seen}}}
 use Rattle.dgt_game.proofs.{Pictures.{at_line, few_same, live_same, over_of, since_of, known_same, read_or_not, returned_of, seen_state, state_of}, recogniser.Recogniser.look.Goals.{then-has_white+then-has_black, After-take}}
-use Rattle.{std.proofs.Common.{rules, arith}, dgt_game.{specs.declared.recogniser.Recogniser.{Recogniser}, proofs.Waiting.{not_found}}}
+use Rattle.{std.{proofs.{Common.{rules, arith, ◌⊎◌}, lemmas.Bool.{false≢true}}}, dgt_game.{specs.Planning.{HasKing}, proofs.Planning.{either_side}}}
+use Rattle.{std.proofs.Common.{rules}, dgt_game.{specs.declared.recogniser.Recogniser.{Recogniser}, proofs.Waiting.{not_found}}}
 use Rattle.{dgt_game.proofs.{recogniser.Recogniser.look.Goals.{else-has_white}, Sure.{sure_of}}, dgt_chess.specs.declared.pieces.Colour.{Colour}}
 use Rattle.dgt_game.proofs.recogniser.Recogniser.look.Goals as goal
 
@@ -115,14 +116,35 @@ returns-clause-behind c =
     ]
 
 pub returns-clause-set_up : goal.returns-clause-set_up
-returns-clause-set_up c = λ none.
+returns-clause-set_up c = λ (none, last).
     let white = not_found c.has_king-has_white.result _ c.has_king-has_white.ensures.0
     (none Colour.White) in
     let black = not_found c.has_king-has_black.result _ c.has_king-has_black.ensures.0
     (none Colour.Black) in
+    let new = c.sets_up-is_new.ensures.1 (white, black, last) in
     let set : c.if-has_white.self.is_set_up ≡ true = elim c.if-has_white.branch [
-      | then-has_white+then-has_black w ↦ rw w.self-is (search rules)
-      | else-has_white w ↦ rw w.self-is (search rules)
+      | then-has_white+then-has_black w ↦ rw w.self-is (search (rules, new))
+      | else-has_white w ↦ rw w.self-is (search (rules, new))
     ] in
     c.take.ensures.set_up (c.read_by_kings-reading.ensures.none white black)
     ∙ c.look_at_kings.ensures.set_up ∙ set
+
+pub returns-clause-kept_up : goal.returns-clause-kept_up
+returns-clause-kept_up c = λ is.
+    let mid = sym c.look_at_kings.ensures.set_up ∙ c.take.ensures.kept_up is in
+    let either : (c.args.self.now.is_set_up ≡ true) ⊎ (c.sets_up-is_new.result ≡ true) =
+    elim c.if-has_white.branch [
+      | then-has_white+then-has_black w ↦ let now = rw w.self-is at mid in search (rules, now)
+      | else-has_white w ↦ let now = rw w.self-is at mid in search (rules, now)
+    ] in
+    elim either [
+      | inl was ↦ inl was
+      | inr new ↦
+          let (white, black, last) = c.sets_up-is_new.ensures.0 new in
+          inr (
+            either_side (λ colour. ¬ (HasKing (pieces_of c.args.view.now.shown) colour))
+                (λ has. false≢true (sym white ∙ c.has_king-has_white.ensures.1 has))
+                (λ has. false≢true (sym black ∙ c.has_king-has_black.ensures.1 has)),
+            last,
+          )
+    ]

@@ -93,6 +93,31 @@ returns-clause-repeated c = λ repeats.
       | else-not-is_same_picture+else-is_sure-self w ↦ rw w.self-is repeats
     ]
 
+pub returns-clause-set_up : goal.returns-clause-set_up
+returns-clause-set_up c = λ is.
+    let set_up = λ (r : Recogniser). r.is_set_up in
+    elim c.if-not-is_same_picture.branch [
+      | then-not-is_same_picture w ↦
+          let same : set_up w.if-not-self.self ≡ set_up w.leave.new.self =
+          elim w.if-not-self.branch [
+            | then-not-self w' ↦ ap set_up w'.self-is
+            | else-not-self w' ↦ ap set_up w'.self-is
+          ] in
+          rw w.self-is (elim (w.show.ensures.kept_up (sym (ap set_up w.self-is) ∙ is)) [
+            | inl was ↦ inl (sym w.leave.ensures.set_up ∙ sym same ∙ was)
+            | inr sets ↦ inr (rw w.show.ensures.shown sets)
+          ])
+      | else-not-is_same_picture+else-is_sure-self w ↦ inl (sym (ap set_up w.self-is) ∙ is)
+    ]
+
+pub returns-clause-sets_up : goal.returns-clause-sets_up
+returns-clause-sets_up c = λ done changed.
+    elim c.if-not-is_same_picture.branch [
+      | then-not-is_same_picture w ↦
+          rw w.self-is (rw w.show.ensures.shown w.show.ensures.set_up)
+      | else-not-is_same_picture+else-is_sure-self w ↦ absurd (changed (ap view_of w.self-is))
+    ]
+
 pub returns-clause-stands : goal.returns-clause-stands
 returns-clause-stands c = λ shown line knows stands.
     let (back, unsaid) = (c.is_due.ensures.0 c.if-is_due.false).0.0 in
