@@ -164,7 +164,7 @@ class Case(unittest.TestCase):
 
 def build_program() -> None:
     """Has the launcher build PROGRAM, if that is needed. Skips the case without rt."""
-    words = [ROOT / "dgt", "--prove" if IS_PROVED else "--plain", "--version"]
+    words = [str(ROOT / "dgt"), "--prove" if IS_PROVED else "--plain", "--version"]
     if not shutil.which("rt") and subprocess.run(words, capture_output=True).returncode:
         skip("the program (no rt)")
     command(*words, seconds=None)
