@@ -35,6 +35,7 @@ STUCK = 60.0  # seconds after which a page that takes nothing is dropped
 UNSENT = 1 << 17  # bytes of a connection that the kernel may hold
 # The bytes that a connection gets at once, and those of all texts that somebody hasn't taken yet.
 SLICE, MOST_HELD = 1 << 14, 1 << 26
+NOTHING = memoryview(b"")  # one for all: to look at a page's own would take as long as to write
 END = re.compile(rb"\r?\n\r?\n")
 LENGTH = re.compile(rb"(?i)\ncontent-length:[ \t]*(\d{1,9})[ \t\r]*$", re.M)
 
@@ -129,7 +130,7 @@ class Connection(asyncio.Protocol):
         self.server, self.unread, self.due = server, b"", math.inf
         self.working: asyncio.Task[None] | None = None
         self.place: int | None = None  # of a page, among the events
-        self.rest = memoryview(b"")  # of an answer, or of events
+        self.rest = NOTHING  # of an answer, or of events
         self.is_last = False  # no other request follows
         self.is_full = False
         self.written = 0.0
@@ -147,7 +148,7 @@ class Connection(asyncio.Protocol):
         self.server.forget(self)
 
     def drop(self) -> None:
-        self.rest = memoryview(b"")
+        self.rest = NOTHING
         self.server.forget(self)
         self.transport.abort()
 
@@ -235,7 +236,7 @@ class Connection(asyncio.Protocol):
         """Sends as much as the browser takes: what the transport keeps is a copy."""
         while self.rest and not self.is_full:
             self.transport.write(self.rest[:SLICE])
-            self.rest = self.rest[SLICE:]
+            self.rest = self.rest[SLICE:] or NOTHING
 
     def pause_writing(self) -> None:
         self.is_full = True
@@ -252,16 +253,21 @@ class Connection(asyncio.Protocol):
 
     def catch_up(self) -> None:
         assert self.place is not None
-        self.due = math.inf
-        self.send_rest()
-        while self.place < self.server.events.end and not self.is_full:
+        server, self.due = self.server, math.inf
+        if self.rest is not NOTHING:
+            self.send_rest()
+        while self.place < server.events.end and not self.is_full:
             try:
-                text, self.place = self.server.since(self.place)
+                text, self.place = server.some.get(self.place) or server.since(self.place)
             except LookupError:
                 self.drop()
                 return
-            self.rest, self.written = memoryview(text), self.server.loop.time()
-            self.send_rest()
+            self.written = server.loop.time()
+            if len(text) > SLICE:
+                self.rest = memoryview(text)
+                self.send_rest()
+            else:
+                self.transport.write(text)
 
 
 class Server:
@@ -374,10 +380,9 @@ class Server:
             self.of_one -= collections.Counter([one.address])
 
     def since(self, place: int) -> tuple[bytes, int]:
-        """Like `Events`; pages at the same place get the same bytes."""
-        if place not in self.some:
-            self.some[place] = self.events.since(place)
-        return self.some[place]
+        """Like `Events`; pages at the same place get the same bytes from `some`."""
+        found = self.some[place] = self.events.since(place)
+        return found
 
     def wake(self) -> None:
         """Notes that there are events. Call it in any thread."""
