@@ -83,7 +83,7 @@ no_goal halves state pieces from to none (one ∷ moves) new (long, (next, move,
     )
 
 -- A move of the opponent empties no square of a man, but for a pawn captured in passing.
-stays_put : (old new : List Piece) (turn turn' : Colour) (a b at : ℕ) (man own : Man)
+pub stays_put : (old new : List Piece) (turn turn' : Colour) (a b at : ℕ) (man own : Man)
     → turn ≡ other turn' → Effect old new turn a b man → piece_at old at ≡ piece_of turn' own
     → IsFree new at → own ≡ Pawn
 stays_put old new turn turn' a b at man own turns made here free =

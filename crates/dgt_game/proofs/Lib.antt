@@ -7,6 +7,7 @@ pub mod Leaving
 pub mod Departing
 pub mod Promoting
 pub mod Turning
+pub mod Gone
 pub mod Links
 pub mod Told
 pub mod Held

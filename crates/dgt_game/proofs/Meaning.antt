@@ -1,8 +1,13 @@
 -- What lines, events and pictures mean, in other words.
-use Rattle.std.{proofs.Common.{rules, ◌≡◌, ◌∙◌, ◌≤◌, refl, sym, ap, inl, inr, subst, arith, zero, suc, length, length-append, List, [], ◌∷◌, ◌++◌, Option}, specs.Prelude.{⊤, Contains, MatchOption}}
-use Rattle.{dgt_values.specs.declared.pieces.Piece.{Piece}, dgt_chess.specs.{declared.state.{Move.{Move}, State.{State}}, Rules.{board}}, dgt_game.specs.{declared.event.Event.{Event}, Lines.{IsLine}}}
-use Rattle.dgt_game.specs.{Lines.{IsMove, IsOnly, LeadsTo, moves_of}, Told.{IsLegalTold, Joins, Leads, Told, WasShown, told_pieces}, Laws.{AreJoined, BackIsCounted, JoinedIsOne, LegalIsJoined}}
-use Rattle.dgt_game.{specs.Laws.{EndIsShown, NoneAndOne, OneIsShown, OneLine, OthersAreHeld, SeveralAreShown, ShownIsHeld, StartIsShown, UnseenIsOnly, first_of}, proofs.{Links.{turned_back}, Same.{one_next}}}
+use Rattle.std.proofs.Common.{rules, ◌≡◌, ◌∙◌, ◌<◌, ◌≤◌, inl, inr, ℕ, refl, sym, ap, subst, arith, zero, suc, length, length-append, List, [], ◌∷◌, ◌++◌, Option}
+use Rattle.std.specs.Prelude.{⊤, ◌≢◌, Contains, MatchOption}
+use Rattle.{dgt_values.specs.declared.pieces.Piece.{Piece}, dgt_game.specs.{declared.event.Event.{Event}, Lines.{IsLine}}}
+use Rattle.dgt_chess.specs.{declared.{pieces.Man.{Man}, state.{Move.{Move}, State.{State}}}, Attacks.{piece_at, piece_of}, Rules.{board}}
+use Rattle.dgt_game.specs.{Lines.{IsMove, IsOnly, LeadsTo, moves_of}, Results.{IsKing}}
+use Rattle.dgt_game.specs.Told.{IsLegalTold, Joins, LacksMen, LacksOne, Leads, Told, WasShown, told_pieces}
+use Rattle.dgt_game.specs.Laws.{AreJoined, BackIsCounted, JoinedIsOne, LegalIsJoined}
+use Rattle.dgt_game.specs.Laws.{EndIsShown, HeldMayLack, NoneAndOne, OneIsGone, OneIsShown, OneLine, OthersAreHeld, SeveralAreShown, ShownIsHeld, StartIsShown, UnseenIsOnly, first_of}
+use Rattle.dgt_game.proofs.{Gone.{gone_at, one_differs, others_stand, same_or_gone}, Links.{turned_back}, Same.{one_next}}
 
 rest_joined : (told : Told) (line : List Told) → AreJoined (told ∷ line) → AreJoined line
 rest_joined told [] h = tt
@@ -105,7 +110,34 @@ several_are_shown shown (first ∷ line) (suc n) told h e some =
 
 pub one_is_shown : OneIsShown
 unfolding WasShown
-one_is_shown shown told h one = search (rules, turned_back)
+one_is_shown shown told h one = elim h [
+  | inl whole ↦ (told_pieces told, whole, inl (inl (λ k small. inl (search (rules, turned_back)))))
+  | inr more ↦ elim more [
+    | inl held ↦ held.1
+    | inr start ↦ absurd (search (rules, start, one))
+  ]
+]
+
+men_differ : (picture : List Piece) (state : State) (k : ℕ) → LacksMen picture state → k < 64
+    → piece_at picture k ≢ piece_at (board state) k
+    → ((man : Man) → piece_at (board state) k ≢ piece_of state.turn man) → ⊥
+men_differ picture state k men small differs none = search rules
+
+only_gone : (picture : List Piece) (state : State) (k : ℕ) → LacksOne picture state k
+    → (piece_at picture k ≡ Piece.Empty) × ¬ (IsKing (piece_at (board state) k))
+    × ((square : ℕ) → square ≢ k → piece_at picture square ≡ piece_at (board state) square)
+only_gone picture state k lacks = (
+  gone_at picture state k lacks,
+  lacks.2,
+  λ square other. others_stand picture state k square lacks other,
+)
+
+pub one_is_gone : OneIsGone
+one_is_gone picture state k (inl men) small differs none =
+    absurd (men_differ picture state k men small differs none)
+one_is_gone picture state k (inr (square, lacks)) small differs none =
+    let same = sym (one_differs picture state square k lacks differs) in
+    only_gone picture state k (subst (LacksOne picture state) same lacks)
 
 pub end_is_shown : EndIsShown
 unfolding WasShown
@@ -113,10 +145,23 @@ end_is_shown shown told picture result one seen kings explains =
     inr (inl (one, (picture, seen, inr (result, kings, explains))))
 
 pub others_are_held : OthersAreHeld
-others_are_held picture state k h small none = search rules
+others_are_held picture state first second (inl men) small small' one none two none' =
+    absurd (men_differ picture state first men small one none)
+others_are_held picture state first second (inr (square, lacks)) small small' one none two none' =
+    one_differs picture state square first lacks one
+    ∙ sym (one_differs picture state square second lacks two)
+
+pub held_may_lack : HeldMayLack
+held_may_lack picture state =
+    (inl, λ square small some king less. inr (square, (small, some, king, less)))
 
 pub shown_is_held : ShownIsHeld
-shown_is_held picture state k h small some = search rules
+shown_is_held picture state k (inl men) small some = search rules
+shown_is_held picture state k (inr (square, lacks)) small some =
+    elim (same_or_gone picture state square k lacks) [
+      | inl same ↦ same
+      | inr gone ↦ absurd (some gone)
+    ]
 
 pub start_is_shown : StartIsShown
 unfolding WasShown

@@ -9,6 +9,8 @@ use Rattle.dgt_game.{specs.{Reading.{ElseStartIsKnown, FollowsSeen, IsKnown, IsR
 use Rattle.dgt_game.proofs.Links.{turned_back}
 use Rattle.std.proofs.Common.{subst}
 use Rattle.dgt_game.specs.Reading.{LiveForTen, MayGoOn, SeenIsFollowed, TwoToFourAreSome}
+use Rattle.{std.proofs.{Common.{ap}, lemmas.{Bool.{cases_eq}, List.{get_or-set_other}}}}
+use Rattle.dgt_game.specs.{Missing.{GoneFrom, IsOneGone}, Reading.{GoneIsKnown}, Results.{IsKing}, Told.{LacksOne}}
 
 pub read_at : (nodes : List Node) (k : ℕ) (node : Node) → k < length nodes
     → node ≡ slice_index_or nodes k node → slice_get nodes k ≡ Some node
@@ -89,6 +91,59 @@ king_seen state turned picture colour false len same sees =
     (one_king (board state) colour possible.kings) sees in
     cc))
 
+king_at : (picture : List Piece) (turned : Bool) (colour : Colour) (found : Bool) (square : ℕ)
+    → square < 64 → length picture ≡ 64
+    → piece_at (as_shown turned picture) square ≡ piece_of colour Man.King
+    → Sees picture colour found → found ≡ true
+king_at picture turned colour found square small len king sees = search (rules, get_or-reverse)
+
+king_of : (pieces : List Piece) (colour : Colour) → HasOneKing pieces colour
+    → (square : ℕ) × (square < 64) × (piece_at pieces square ≡ piece_of colour Man.King)
+unfolding HasOneKing
+king_of pieces colour h = search rules
+
+is_king : (colour : Colour) (piece : Piece) → piece ≡ piece_of colour Man.King → IsKing piece
+is_king Colour.White piece e = inl e
+is_king Colour.Black piece e = inr e
+
+-- a king isn't the piece that is gone
+king_stays : (state : State) (pieces : List Piece) (gone : ℕ) (colour : Colour)
+    → LacksOne pieces state gone → HasOneKing (board state) colour
+    → (square : ℕ) × (square < 64) × (piece_at pieces square ≡ piece_of colour Man.King)
+king_stays state pieces gone colour lacks one =
+    let (square, small, king) = king_of (board state) colour one in (
+      square,
+      small,
+      elim (cases_eq square gone) [
+        | inl same ↦ absurd (lacks.2 (is_king colour _ (ap (piece_at (board state)) (sym same)
+            ∙ king)))
+        | inr differs ↦ ap (λ (p : List Piece). piece_at p square) lacks.3
+            ∙ get_or-set_other (board state) gone square Piece.Empty Piece.Empty differs ∙ king
+      ],
+    )
+
+pub king_left : (state : State) (turned : Bool) (picture : List Piece) (gone : ℕ)
+    (colour : Colour) (found : Bool) → length picture ≡ 64
+    → LacksOne (as_shown turned picture) state gone → Sees picture colour found → found ≡ true
+king_left state turned picture gone colour true len lacks sees = refl
+king_left state turned picture gone colour false len lacks sees =
+    absurd (∥∥₁_elim state.possible (λ x y. absurd x) (λ possible.
+    let (square, small, king) = king_stays state (as_shown turned picture) gone colour lacks
+    (one_king (board state) colour possible.kings) in
+    let wrong : false ≡ true = king_at picture turned colour false square small len king sees in
+    cc))
+
+-- the state that is shown but for one piece
+abbrev pub SomeWithout : List Piece → Type 0
+SomeWithout picture =
+    (state : State) × ((turned : Bool)
+    × ((gone : ℕ) × LacksOne (as_shown turned picture) state gone))
+
+without_from : (step : Step) (picture : List Piece)
+    → IsOneGone step.state (as_shown step.is_turned picture) → SomeWithout picture
+without_from step picture (square, (one, (new, (move, lacks, same))), only) =
+    (new, (step.is_turned, (square, lacks)))
+
 -- the state that is shown
 abbrev pub SomeState : List Piece → Type 0
 SomeState picture = (state : State) × (turned : Bool) × (board state ≡ as_shown turned picture)
@@ -115,17 +170,22 @@ shown_state : (self : Memory) (view : View) (place : Place) → ShowsAt self vie
 shown_state self view place (step, at, same) = search (rules, turned_to)
 
 pub state_of : (self : Recogniser) (view : View) → IsKnown self view
-    → SomeState (pieces_of view.shown)
+    → SomeState (pieces_of view.shown) ⊎ SomeWithout (pieces_of view.shown)
 state_of self view known = elim known [
-  | inl start ↦ (start.0, start.1, start.3)
+  | inl start ↦ inl (start.0, start.1, start.3)
   | inr more ↦ elim more [
-    | inl earlier ↦
+    | inl earlier ↦ inl (
         search (rules, turned_to)
+        )
     | inr more ↦ elim more [
-      | inl one ↦ led_to 1 self.memory (Place.Line 0) (pieces_of view.shown) one.1
+      | inl one ↦ inl (led_to 1 self.memory (Place.Line 0) (pieces_of view.shown) one.1)
       | inr more ↦ elim more [
-        | inl two ↦ led_to 2 self.memory (Place.Line 0) (pieces_of view.shown) two.2
-        | inr last ↦ shown_state self.memory view (Place.Line 0) last.1
+        | inl two ↦ inl (led_to 2 self.memory (Place.Line 0) (pieces_of view.shown) two.2)
+        | inr more ↦ elim more [
+          | inl last ↦ inl (shown_state self.memory view (Place.Line 0) last.1)
+          | inr (live, behind, set, (step, at, gone)) ↦
+              inr (without_from step (pieces_of view.shown) gone)
+        ]
       ]
     ]
   ]
@@ -159,6 +219,11 @@ earlier_same old new view same (k, some, few, (step, at, shows)) = (
   (step, let got : slice_get (steps new.line.items) k ≡ Some step = cc in got, shows),
 )
 
+gone_same : (old new : Memory) (picture : List Piece) → new.line ≡ old.line
+    → GoneFrom old (Place.Line 0) picture → GoneFrom new (Place.Line 0) picture
+gone_same old new picture same (step, at, gone) =
+    (step, let got : slice_get (steps new.line.items) 0 ≡ Some step = cc in got, gone)
+
 last_same : (old new : Memory) (view : View) → new.line ≡ old.line
     → ShowsAt old view (Place.Line 0) → ShowsAt new view (Place.Line 0)
 last_same old new view same (step, at, shows) =
@@ -166,8 +231,10 @@ last_same old new view same (step, at, shows) =
 
 pub known_same : (old new : Recogniser) (view : View) → new.memory.line ≡ old.memory.line
     → over_of new ≡ over_of old → since_of new ≡ since_of old → returned_of new ≡ returned_of old
+    → (old.is_behind ≡ false → new.is_behind ≡ false)
+    → (old.is_set_up ≡ false → new.is_set_up ≡ false)
     → IsKnown old view → IsKnown new view
-known_same old new view line over since returned known = elim known [
+known_same old new view line over since returned behind set_up known = elim known [
   | inl start ↦ inl start
   | inr more ↦ inr (elim more [
     | inl earlier ↦ inl (
@@ -181,7 +248,15 @@ known_same old new view line over since returned known = elim known [
         | inl two ↦ inl (
             search (rules, live_same, line_same)
             )
-        | inr last ↦ inr (over ∙ last.0, last_same old.memory new.memory view line last.1)
+        | inr more ↦ inr (elim more [
+          | inl last ↦ inl (over ∙ last.0, last_same old.memory new.memory view line last.1)
+          | inr (live, doubt, set, gone) ↦ inr (
+            live_same old new line over since live,
+            behind doubt,
+            set_up set,
+            gone_same old.memory new.memory (pieces_of view.shown) line gone,
+          )
+        ])
       ])
     ])
   ])
@@ -190,12 +265,13 @@ known_same old new view line over since returned known = elim known [
 -- if the line stays, and the picture has a place once it was looked at
 pub explains : (old new : Recogniser) (view : View) → new.view ≡ Some view
     → new.memory.line ≡ old.memory.line → over_of new ≡ over_of old → since_of new ≡ since_of old
-    → (new.here ≢ Place.Nowhere) ⊎ (returned_of new ≡ returned_of old)
+    → (new.here ≢ Place.Nowhere) ⊎ ((returned_of new ≡ returned_of old)
+    × (new.is_behind ≡ old.is_behind) × (new.is_set_up ≡ false → old.is_set_up ≡ false))
     → (IsKnown old view → new.here ≢ Place.Nowhere) → IsExplained new
 explains old new view is line over since placed stands = rw is (λ known. elim placed [
   | inl here ↦ here
-  | inr returned ↦ stands (known_same new old view (sym line) (sym over) (sym since)
-      (sym returned) known)
+  | inr (returned, behind, set_up) ↦ stands (known_same new old view (sym line) (sym over)
+      (sym since) (sym returned) (λ e. sym behind ∙ e) set_up known)
 ])
 
 line_at : (old new : Memory) (k : ℕ) (step : Step) → new.line ≡ old.line
@@ -299,9 +375,18 @@ two_known self view step one answer mid new over none last move move' same = inr
 
 pub earlier_known : EarlierAreKnown
 earlier_known self view step zero over some few at same =
-    inr (inr (inr (inr (over, (step, at, same)))))
+    inr (inr (inr (inr (inl (over, (step, at, same))))))
 earlier_known self view step (suc k) over some few at same =
     inr (inl (open_line self over some, (suc k, omega arith, few, (step, at, same))))
+
+pub gone_known : GoneIsKnown
+gone_known self view step one new square over doubt set last move lacks same only =
+    inr (inr (inr (inr (inr (
+      open_line self over (has_last self step last),
+      doubt,
+      set,
+      (step, last, (square, (one, (new, (move, lacks, same))), only)),
+    )))))
 
 pub start_known : StartIsKnown
 start_known self view state is_turned start same = inl (

@@ -6,7 +6,7 @@ use Rattle.dgt_game.specs.{declared.{node.{Place.{Place}, Returned.{Returned}, S
 use Rattle.dgt_game.specs.{Planning.{LacksOnly}, Reading.{Shows}, Told.{IsHeld}, Standing.{EndsHere, IsCalledFor, IsMeant, IsOpen, Lands, ShowsAs, ShowsBut, ShowsLast, Stands, StandsAt, TakesBack}}
 use Rattle.dgt_game.specs.declared.{event.GameResult.{GameResult}, recogniser.Over.{Over}}
 use Rattle.{std.{proofs.lemmas.Option.{MatchOption-at_some}, proofs.Common.{inl, inr}, specs.Prelude.{⊤}}, dgt_game.specs.Standing.{IsAtAnswer, IsThere}}
-use Rattle.dgt_game.{specs.Waiting.{EndWaits, EndsBy, coming}, proofs.{Chains.{moved, some_below}}}
+use Rattle.dgt_game.{specs.Waiting.{EndWaits, EndsBy, coming}, proofs.{Chains.{moved, some_below}, Gone.{same_or_gone}}}
 
 -- what is so of a value is so of one that is there
 pub some_of : {X : Type 0} (o : Option X) (P : X → Type 0) → MatchOption o ⊥ P → (x : X)
@@ -112,10 +112,12 @@ pub but_moved : (view : View) (step other : Step) → other.is_turned ≡ step.i
     → board other.state ≡ board step.state → ShowsBut view step → ShowsBut view other
 but_moved view step other turned same shown = search rules
 
--- pieces in hands lack
+-- pieces in hands lack, or one that is gone
 pub held_lacks : (picture : List Piece) (state : State) → IsHeld picture state
     → LacksOnly picture state
-held_lacks picture state held = search rules
+held_lacks picture state (inl men) = search rules
+held_lacks picture state (inr (gone, lacks)) = λ square small.
+    same_or_gone picture state gone square lacks
 
 -- what is reported later is meant, too
 pub meant_stands : (self : Recogniser) → IsMeant self → TakesBack 4 self

@@ -1,5 +1,5 @@
 -- What lines, events and pictures mean, in other words.
-use Rattle.std.specs.Prelude.{◌≡◌, ◌≢◌, ◌<◌, ◌≤◌, ◌⊎◌, ◌+◌, ⊤, ℕ, Bool, List, [], ◌∷◌, Some, Contains, length, slice_get}
+use Rattle.std.specs.Prelude.{◌≡◌, ◌≢◌, ◌<◌, ◌≤◌, ◌⊎◌, ◌+◌, ⊤, ℕ, Bool, List, [], ◌∷◌, Some, Contains, length, slice_get, slice_set}
 use Rattle.dgt_values.specs.declared.pieces.Piece.{Piece}
 use Rattle.dgt_values.specs.Board.{square_number}
 use Rattle.dgt_chess.specs.declared.pieces.Man.{Man}
@@ -11,8 +11,8 @@ use Rattle.dgt_game.specs.declared.event.Event.{Event}
 use Rattle.dgt_game.specs.declared.event.GameResult.{GameResult}
 use Rattle.dgt_game.specs.declared.event.Moves.{Moves}
 use Rattle.dgt_game.specs.Lines.{IsLine, IsMove, moves_of}
-use Rattle.dgt_game.specs.Results.{Explains, KingsMean}
-use Rattle.dgt_game.specs.Told.{IsHeld, IsLegalTold, IsShown, Joins, Leads, Told, WasShown, as_shown, told_pieces}
+use Rattle.dgt_game.specs.Results.{Explains, IsKing, KingsMean}
+use Rattle.dgt_game.specs.Told.{IsHeld, IsLegalTold, IsShown, Joins, LacksMen, Leads, Told, WasShown, as_shown, told_pieces}
 
 -- Each state follows the one before by as many legal half-moves, and the board is turned as it was.
 abbrev pub AreJoined : List Told → Type 0
@@ -76,8 +76,8 @@ SeveralAreShown =
     (shown : List (List Piece)) (line : List Told) (n : ℕ) (told : Told) → IsShown shown line
     → slice_get line n ≡ Some told → 2 ≤ told.halves → Contains shown (told_pieces told)
 
--- After a single one, pieces of the side to move may have been in hands, or the kings gave a result
--- and some pieces were gone.
+-- After a single one, pieces of the side to move may have been in hands, or one piece gone, or the
+-- kings gave a result and some pieces were gone.
 abbrev pub OneIsShown : Type 0
 OneIsShown =
     (shown : List (List Piece)) (told : Told) → WasShown shown told → told.halves ≡ 1
@@ -94,13 +94,34 @@ EndIsShown =
     → KingsMean (as_shown told.is_turned picture) result
     → Explains (as_shown told.is_turned picture) (board told.state) → WasShown shown told
 
--- no other piece may lack, and none stands elsewhere
+-- No two squares lack pieces that aren't the side's to move.
 abbrev pub OthersAreHeld : Type 0
 OthersAreHeld =
-    (picture : List Piece) (state : State) (k : ℕ) → IsHeld picture state → k < 64
-    → ((man : Man) → piece_at (board state) k ≢ piece_of state.turn man)
-    → piece_at picture k ≡ piece_at (board state) k
+    (picture : List Piece) (state : State) (first second : ℕ) → IsHeld picture state → first < 64
+    → second < 64 → piece_at picture first ≢ piece_at (board state) first
+    → ((man : Man) → piece_at (board state) first ≢ piece_of state.turn man)
+    → piece_at picture second ≢ piece_at (board state) second
+    → ((man : Man) → piece_at (board state) second ≢ piece_of state.turn man) → first ≡ second
 
+-- If a square lacks one, it is empty, the piece isn't a king, and all else is shown.
+abbrev pub OneIsGone : Type 0
+OneIsGone =
+    (picture : List Piece) (state : State) (k : ℕ) → IsHeld picture state → k < 64
+    → piece_at picture k ≢ piece_at (board state) k
+    → ((man : Man) → piece_at (board state) k ≢ piece_of state.turn man)
+    → (piece_at picture k ≡ Piece.Empty) × ¬ (IsKing (piece_at (board state) k))
+    × ((square : ℕ) → square ≢ k → piece_at picture square ≡ piece_at (board state) square)
+
+-- Pieces of the side to move may lack, or any single piece that isn't a king.
+abbrev pub HeldMayLack : Type 0
+HeldMayLack =
+    (picture : List Piece) (state : State)
+    → (LacksMen picture state → IsHeld picture state)
+    × ((square : ℕ) → square < 64 → piece_at (board state) square ≢ Piece.Empty
+    → ¬ (IsKing (piece_at (board state) square))
+    → picture ≡ slice_set (board state) square Piece.Empty → IsHeld picture state)
+
+-- no piece stands elsewhere
 abbrev pub ShownIsHeld : Type 0
 ShownIsHeld =
     (picture : List Piece) (state : State) (k : ℕ) → IsHeld picture state → k < 64

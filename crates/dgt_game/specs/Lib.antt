@@ -2,6 +2,7 @@
 pub mod Lines
 pub mod Told
 pub mod Memory
+pub mod Missing
 pub mod Recogniser
 pub mod Laws
 pub mod Results

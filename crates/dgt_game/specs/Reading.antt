@@ -1,5 +1,5 @@
 -- What a picture is read as.
-use Rattle.std.specs.Prelude.{◌≡◌, ◌≢◌, ◌<◌, ◌≤◌, ◌↔◌, ◌⊎◌, ◌+◌, ◌-◌, ◌^◌, ⊤, ℕ, Bool, true, min, List, [], Some, IfSome, MatchOption, length, map, slice_get}
+use Rattle.std.specs.Prelude.{◌≡◌, ◌≢◌, ◌<◌, ◌≤◌, ◌↔◌, ◌⊎◌, ◌+◌, ◌-◌, ◌^◌, ⊤, ℕ, Bool, true, false, min, List, [], Some, IfSome, MatchOption, length, map, slice_get}
 use Rattle.dgt_values.specs.declared.pieces.Piece.{Piece}
 use Rattle.dgt_values.specs.Board.{pieces_of}
 use Rattle.dgt_chess.specs.declared.pieces.Colour.{Colour}
@@ -18,8 +18,9 @@ use Rattle.dgt_game.specs.declared.recogniser.Over.{Over}
 use Rattle.dgt_game.specs.declared.recogniser.Recogniser.{Recogniser}
 use Rattle.dgt_game.specs.declared.view.View.{View}
 use Rattle.dgt_game.specs.Lines.{IsLine, IsMove, LeadsTo}
-use Rattle.dgt_game.specs.Told.{IsHeld, as_shown, told_pieces}
+use Rattle.dgt_game.specs.Told.{IsHeld, LacksOne, as_shown, told_pieces}
 use Rattle.dgt_game.specs.Memory.{IsBefore, step_at, steps, told_of}
+use Rattle.dgt_game.specs.Missing.{CanBeGone, GoneFrom}
 use Rattle.dgt_game.specs.Waiting.{last_of}
 
 -- the picture is that of a step's state
@@ -103,7 +104,7 @@ ShowsEarlier self view = (k : ℕ) × (1 ≤ k) × (k ≤ 4) × ShowsAt self vie
 
 -- What is always read: the start of a game and, if the line may go on, one of its states, or what
 -- one legal half-move or two lead to from the last one. If the line was taken back since, two may
--- be pieces that are lifted.
+-- be pieces that are lifted. Without a doubt, one piece may be gone after a half-move.
 abbrev pub IsKnown : Recogniser → View → Type 0
 IsKnown self view =
     ShowsStart view
@@ -112,6 +113,8 @@ IsKnown self view =
     ⊎ (IsLive self × (self.returned.count ≡ 0)
     × HasLine 2 self.memory (Place.Line 0) (pieces_of view.shown))
     ⊎ ((self.over ≡ Over.No) × ShowsAt self.memory view (Place.Line 0))
+    ⊎ (IsLive self × (self.is_behind ≡ false) × (self.is_set_up ≡ false)
+    × GoneFrom self.memory (Place.Line 0) (pieces_of view.shown))
 
 abbrev pub origins : List Node → List Origin
 origins nodes = map (λ node. node.origin) nodes
@@ -212,6 +215,19 @@ abbrev pub StartIsKnown : Type 0
 StartIsKnown =
     (self : Recogniser) (view : View) (state : State) (is_turned : Bool) → IsStart state
     → as_shown is_turned (board state) ≡ pieces_of view.shown → IsKnown self view
+
+-- **One missing piece doesn't break the line.** What a half-move leads to is known though it lacks
+-- a piece that isn't a king, and stood there before. Nothing is in doubt or set up, and no other
+-- piece may be the one that is gone.
+abbrev pub GoneIsKnown : Type 0
+GoneIsKnown =
+    (self : Recogniser) (view : View) (step : Step) (one : Move) (new : State) (square : ℕ)
+    → self.over ≡ Over.No → self.is_behind ≡ false → self.is_set_up ≡ false
+    → last_of self.memory ≡ Some step → IsMove step.state one new
+    → LacksOne (as_shown step.is_turned (pieces_of view.shown)) new square
+    → piece_at (board step.state) square ≡ piece_at (board new) square
+    → ((others : ℕ) → CanBeGone step.state (as_shown step.is_turned (pieces_of view.shown)) others
+    → others ≡ square) → IsKnown self view
 
 -- a line that is live has begun
 abbrev pub LiveHasBegun : Type 0

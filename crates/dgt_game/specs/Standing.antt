@@ -19,7 +19,7 @@ use Rattle.dgt_game.specs.Reading.{Shows}
 use Rattle.dgt_game.specs.Timing.{IsIdle}
 use Rattle.dgt_game.specs.Waiting.{Show, coming, last_of}
 
--- the board shows the step's position but for pieces that are gone, which are in hands
+-- the board shows the step's position but for pieces that are in hands or gone
 abbrev pub ShowsBut : View → Step → Type 0
 ShowsBut view step = LacksSome (as_shown step.is_turned (pieces_of view.shown)) step.state
 
@@ -42,7 +42,7 @@ Lands view self =
     (ShowsLast view self ⊎ MatchOption self.answer ⊥ Counts)
     × IfSome self.answer (λ node. Counts node → ShowsAs view node)
 
--- the board shows the step, unless it isn't to be reported: then pieces are in hands
+-- the board shows the step, unless it isn't to be reported: then pieces are in hands or gone
 abbrev pub StandsOn : Bool → Bool → View → Step → Type 0
 StandsOn is_next is_sure view step =
     (is_next ≡ true → Shows view step)

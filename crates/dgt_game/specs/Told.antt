@@ -1,5 +1,5 @@
 -- What may be reported.
-use Rattle.std.specs.Prelude.{◌≡◌, ◌≢◌, ◌<◌, ◌⊎◌, ℕ, ⊤, Bool, true, false, List, [], ◌∷◌, Contains, length, reverse}
+use Rattle.std.specs.Prelude.{◌≡◌, ◌≢◌, ◌<◌, ◌⊎◌, ℕ, ⊤, Bool, true, false, List, [], ◌∷◌, Contains, length, reverse, slice_set}
 use Rattle.dgt_values.specs.declared.pieces.Piece.{Piece}
 use Rattle.dgt_chess.specs.declared.pieces.Man.{Man}
 use Rattle.dgt_chess.specs.declared.state.State.{State}
@@ -7,7 +7,7 @@ use Rattle.dgt_chess.specs.Attacks.{piece_at, piece_of}
 use Rattle.dgt_chess.specs.Rules.{IsStart, board}
 use Rattle.dgt_game.specs.declared.event.Event.{Event}
 use Rattle.dgt_game.specs.Lines.{IsMove, IsLine, IsOnly, moves_of}
-use Rattle.dgt_game.specs.Results.{EndsShown}
+use Rattle.dgt_game.specs.Results.{EndsShown, IsKing}
 
 -- a state reported, the half-moves to it from the one before, and whether the board is turned
 pub record Told : Type 0 where
@@ -60,14 +60,27 @@ IsLegalTold line (event ∷ events) new =
     (next : List Told) × Leads line event next × IsLegalTold next events new
 
 -- a picture lacks at most pieces of the side to move, which are in hands
-abbrev pub IsHeld : List Piece → State → Type 0
-IsHeld picture state =
+abbrev pub LacksMen : List Piece → State → Type 0
+LacksMen picture state =
     (k : ℕ) → k < 64 → (piece_at picture k ≡ piece_at (board state) k)
     ⊎ ((piece_at picture k ≡ Piece.Empty)
     × ((man : Man) × (piece_at (board state) k ≡ piece_of state.turn man)))
 
--- The board has shown the state's position, or all of it but pieces of the side to move, or a result
--- by kings and else only its pieces, or a line begins with the state in which games do.
+-- it lacks the piece of one square, which isn't a king, and shows all else
+abbrev pub LacksOne : List Piece → State → ℕ → Type 0
+LacksOne picture state square =
+    (square < 64) × (piece_at (board state) square ≢ Piece.Empty)
+    × ¬ (IsKing (piece_at (board state) square))
+    × (picture ≡ slice_set (board state) square Piece.Empty)
+
+-- a picture lacks at most pieces that are in hands, or one piece that is gone
+abbrev pub IsHeld : List Piece → State → Type 0
+IsHeld picture state =
+    LacksMen picture state ⊎ ((square : ℕ) × LacksOne picture state square)
+
+-- The board has shown the state's position, or all of it but pieces of the side to move or one
+-- piece, or a result by kings and else only its pieces, or a line begins with the state in which
+-- games do.
 unfoldable pub WasShown : List (List Piece) → Told → Type 0
 WasShown shown told =
     Contains shown (told_pieces told)

@@ -7,11 +7,12 @@ ghost use Rattle.dgt_game.specs.declared.event.Event.{Event};
 ghost use Rattle.dgt_game.specs.declared.recogniser.Recogniser.{Recogniser};
 ghost use Rattle.dgt_game.specs.Filed.{AllIsFile, AskedStays, AsksAreLegal, CorrectionsKeepNothing, EndedIsKept, NoLineIsDeleted, OneBegins, WholeIsKept};
 ghost use Rattle.dgt_game.specs.Finding.{IsFound, MovedIsSearched, SearchIsDue, WhatFollowsIsFound};
-ghost use Rattle.dgt_game.specs.Laws.{BackIsCounted, EndIsShown, JoinedIsOne, LegalIsJoined, NoneAndOne, OneIsShown, OneLine, OthersAreHeld, SeveralAreShown, ShownIsHeld, StartIsShown, UnseenIsOnly};
+ghost use Rattle.dgt_game.specs.Laws.{BackIsCounted, EndIsShown, HeldMayLack, JoinedIsOne, LegalIsJoined, NoneAndOne, OneIsGone, OneIsShown, OneLine, OthersAreHeld, SeveralAreShown, ShownIsHeld, StartIsShown, UnseenIsOnly};
 ghost use Rattle.dgt_game.specs.Planning.{ElseMayBegin, FarIsCounted, InTurnIsNotRefused, IsLostOr, IsPlanned, LiftedIsGone, LostIsReported, MovingBothIsSettingUp, NothingFits, OneFits, PossibleIsHopeful, WhyHopeless};
-ghost use Rattle.dgt_game.specs.Reading.{EarlierAreKnown, ElseStartIsKnown, IsExplained, LiveForTen, LiveHasBegun, ManHasMoved, MovesAreKnown, RepeatsInPlace, RepetitionIsRead, SeenIsFollowed, StartIsKnown, TwoAreKnown, TwoToFourAreSome};
+ghost use Rattle.dgt_game.specs.Reading.{EarlierAreKnown, ElseStartIsKnown, GoneIsKnown, IsExplained, LiveForTen, LiveHasBegun, ManHasMoved, MovesAreKnown, RepeatsInPlace, RepetitionIsRead, SeenIsFollowed, StartIsKnown, TwoAreKnown, TwoToFourAreSome};
 ghost use Rattle.dgt_game.specs.declared.node.{Place.{Place}, Step.{Step}};
 ghost use Rattle.dgt_game.specs.Memory.{step_at, steps};
+ghost use Rattle.dgt_game.specs.Missing.{LiftedIsNotGone, TheirsIsOnlyGone};
 ghost use Rattle.dgt_game.specs.Recogniser.{Knows, new_recogniser};
 ghost use Rattle.dgt_game.specs.Results.{CentreIsMiddle, ExplainedIsLike, KingsAreNamed, LostInTurn, MatedHasLost, NotFound, NotLost, OneByKings, OneByRules, OneOther, OneResult, OthersStand, ShownIsExplained, Stay};
 ghost use Rattle.dgt_game.specs.Runs.{CallsAreRuns, IsLegalAndShown, LastWasShown, NothingWasSure, ReportedInOrder, ShownMayEnd, SureIsCounted, SureIsSeen, SureWasShown};
@@ -63,6 +64,8 @@ pub fn what_was_shown()
     ensures one { OneIsShown }
     ensures end { EndIsShown }
     ensures others { OthersAreHeld }
+    ensures gone { OneIsGone }
+    ensures may { HeldMayLack }
     ensures pieces { ShownIsHeld }
     ensures start { StartIsShown }
 {}
@@ -181,6 +184,9 @@ pub fn what_is_known()
     ensures start { StartIsKnown }
     ensures others { ElseStartIsKnown }
     ensures live { LiveHasBegun }
+    ensures gone { GoneIsKnown }
+    ensures theirs { TheirsIsOnlyGone }
+    ensures lifted { LiftedIsNotGone }
 {}
 
 /// The times in milliseconds and the other limits, by their numbers.

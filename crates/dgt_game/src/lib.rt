@@ -37,6 +37,7 @@ mod event;
 mod kings;
 pub mod laws;
 mod memory;
+mod missing;
 mod node;
 mod observation;
 mod reach;

@@ -1,6 +1,6 @@
 //! What was reported, and what was seen since.
 
-ghost use Rattle.std.specs.Prelude.{◌≡◌, ◌≢◌, ◌⊎◌, ◌<◌, ◌≤◌, ◌↔◌, ℕ, Bool, List, [], ◌∷◌, ◌++◌, Option, Some, None, IfSome, IsSome, IsTrue, MatchOption, Contains, length, slice_get, ◌+◌};
+ghost use Rattle.std.specs.Prelude.{◌≡◌, ◌≢◌, ◌⊎◌, ◌<◌, ◌≤◌, ◌↔◌, ℕ, Bool, true, false, List, [], ◌∷◌, ◌++◌, Option, Some, None, IfSome, IsSome, IsTrue, MatchOption, Contains, length, slice_get, ◌+◌};
 ghost use Rattle.dgt_values.specs.declared.pieces.Piece.{Piece};
 ghost use Rattle.dgt_game.specs.declared.node.Place.{Place};
 ghost use Rattle.dgt_game.specs.declared.node.Node.{Node};
@@ -116,7 +116,7 @@ impl Memory {
         }
     }
 
-    /// A node was shown without a doubt.
+    /// A node was shown without a doubt, and all of it.
     pub(crate) fn set_sure(&mut self, k: usize)
         ensures holds { (shown : List (List Piece)) (line : List Told) → Holds shown line self.old
             → Holds shown line self.new }
@@ -125,6 +125,12 @@ impl Memory {
         ensures line { self.new.line ≡ self.old.line }
         ensures answer { self.new.answer ≡ self.old.answer }
         ensures seen { steps self.new.seen.items ≡ steps self.old.seen.items }
+        ensures whole { IfSome (slice_get self.old.seen.items k) (λ node.
+            slice_get self.new.seen.items k ≡ Some (record node {
+              is_sure = true;
+              is_held = false;
+              lacks_one = false;
+            })) }
         ensures sure { (sure : List (List Piece)) (returned : Returned)
             → IfSome (slice_get (steps self.old.seen.items) k)
             (λ step. WasShown sure (told_of step))
@@ -185,7 +191,8 @@ impl Memory {
             → IsSome result }
         ensures whole { IfSome result (λ k. (new : Node) × (slice_get self.new.seen.items k ≡ Some
             new)
-            × (new.is_held ≡ node.is_held) × (new.origin ≡ node.origin)) }
+            × (new.is_held ≡ node.is_held) × (new.origin ≡ node.origin)
+            × (new.lacks_one ≡ node.lacks_one)) }
         ensures rooted { IsRooted (length (steps self.old.line.items)) (steps self.old.seen.items)
             → IsRooted (length (steps self.new.line.items)) (steps self.new.seen.items) }
         ensures free { length self.old.seen.items < 24
@@ -524,7 +531,8 @@ impl Memory {
             × (result ≡ Some new) × (self.new.seen.items ≡ new ∷ [])
             × (new.step.state ≡ node.step.state) × (new.step.is_turned ≡ node.step.is_turned)
             × (new.step.way ≡ node.step.way) × (new.is_held ≡ node.is_held)
-            × (node.step.way ≡ Way.Begun → new.origin ≡ node.origin)) }
+            × (node.step.way ≡ Way.Begun → new.origin ≡ node.origin)
+            × (new.lacks_one ≡ node.lacks_one)) }
         ensures follows { IfSome result (λ new. (self.new.seen.items ≡ new ∷ [])
             × (new.step.parent ≡ Place.Line 0)) }
         ensures sure { LeavesSure self.old self.new }
@@ -559,6 +567,12 @@ fn set_left<const ROOM: usize>(nodes: &mut ArrayVec<Node, ROOM>, k: usize, now: 
 #[tactic(auto, using(crate::proofs::Nodes::same_steps))]
 fn set_sure(nodes: &mut ArrayVec<Node, SEEN>, k: usize)
     ensures steps { steps nodes.new.items ≡ steps nodes.old.items }
+    ensures whole { IfSome (slice_get nodes.old.items k) (λ node.
+        slice_get nodes.new.items k ≡ Some (record node {
+          is_sure = true;
+          is_held = false;
+          lacks_one = false;
+        })) }
     ensures sure { (sure : List (List Piece))
         → IfSome (slice_get (steps nodes.old.items) k) (λ step. WasShown sure (told_of step))
         → AreMarked sure nodes.old.items → AreMarked sure nodes.new.items }
@@ -567,6 +581,7 @@ fn set_sure(nodes: &mut ArrayVec<Node, SEEN>, k: usize)
         let mut node = nodes[k];
         node.is_sure = true;
         node.is_held = false;
+        node.lacks_one = false;
         nodes[k] = node;
     }
 }

@@ -100,8 +100,10 @@ pub(crate) struct Node {
     pub(crate) left: u64,
     /// Whether it was shown without a doubt.
     pub(crate) is_sure: bool,
-    /// Whether it was shown only without pieces of the side to move, which were in hands.
+    /// Whether it was shown only without pieces that were in hands, or without one that was gone.
     pub(crate) is_held: bool,
+    /// Whether it was shown only without one piece, which was gone.
+    pub(crate) lacks_one: bool,
     /// Whether its last two half-moves were faster than hands.
     pub(crate) is_quick: bool,
     /// Whether something wasn't shown before it: a jump may have more half-moves than it seems.
@@ -126,7 +128,8 @@ impl Node {
         ensures first { (result.origin ≡ origin) × (result.depth ≡ 1) }
         ensures times { (result.at ≡ at) × (result.left ≡ at) }
         ensures plain { (result.is_sure ≡ false) × (result.is_quick ≡ false)
-            × (result.was_behind ≡ false) × (result.jumps ≡ false) × (result.jumps_far ≡ false) }
+            × (result.was_behind ≡ false) × (result.jumps ≡ false) × (result.jumps_far ≡ false)
+            × (result.lacks_one ≡ false) }
     {
         Node {
             step: Step {
@@ -140,6 +143,7 @@ impl Node {
             left: at,
             is_sure: false,
             is_held: false,
+            lacks_one: false,
             is_quick: false,
             was_behind: false,
             jumps: false,
@@ -152,7 +156,8 @@ impl Node {
     pub(crate) fn after_line(&self) -> Self
         ensures sure { result.is_sure ≡ self.now.is_sure }
         ensures rest { (result.is_held ≡ self.now.is_held)
-            × (self.now.step.way ≡ Way.Begun → result.origin ≡ self.now.origin) }
+            × (self.now.step.way ≡ Way.Begun → result.origin ≡ self.now.origin)
+            × (result.lacks_one ≡ self.now.lacks_one) }
         ensures step { result.step ≡ record {
           state = self.now.step.state;
           is_turned = self.now.step.is_turned;

@@ -10,8 +10,9 @@ ghost use Rattle.dgt_chess.specs.declared.pieces.Man.{Man};
 ghost use Rattle.dgt_game.specs.declared.node.Step.{Step};
 ghost use Rattle.dgt_game.specs.Planning.{LacksOnly, LacksSome};
 ghost use Rattle.dgt_chess.specs.Attacks.{other, piece_of};
-ghost use Rattle.dgt_game.specs.Told.{IsHeld, Told, told_pieces};
+ghost use Rattle.dgt_game.specs.Told.{LacksMen, Told, told_pieces};
 ghost use Rattle.dgt_game.specs.Memory.{By, halves_of, told_of};
+ghost use Rattle.dgt_game.specs.Missing.{AfterStayed, GoneFrom, HasStayed};
 ghost use Rattle.dgt_game.specs.declared.node.Origin.{Origin};
 ghost use Rattle.dgt_game.specs.declared.node.Place.{Place};
 ghost use Rattle.dgt_game.specs.declared.recogniser.Over.{Over};
@@ -20,6 +21,7 @@ ghost use Rattle.dgt_game.specs.declared.view.View.{View};
 
 use crate::early::moves_again;
 use crate::event::{GAP, Moves};
+use crate::missing::half_move_without_one;
 use crate::node::{Node, Origin, Place, Step, Way};
 use crate::recogniser::{Over, Recogniser};
 use crate::times::{HANDS, NEAR, SETTLE};
@@ -33,7 +35,7 @@ use dgt_values::{Piece, Position, Square};
 pub(crate) enum Reading {
     At(Place),
     New(Node),
-    /// A node, but for pieces of the side to move that are in hands.
+    /// A node, but for pieces of the side to move that are in hands, or one piece that is gone.
     Held(Node),
     /// Two nodes, the second after the first.
     Two(Node, Node),
@@ -67,6 +69,9 @@ impl Recogniser {
             → TakesFewBack self.now.memory result }
         ensures room { HasRoom self.now.memory result }
         ensures begins { MarksStart result }
+        ensures gone { IsLive self.now → self.now.is_behind ≡ false → self.now.is_set_up ≡ false
+            → GoneFrom self.now.memory (Place.Line 0) (pieces_of view.now.shown)
+            → IsRead result }
     {
         if let Some(place) = self.read_line(view) {
             return Reading::At(place);
@@ -91,6 +96,9 @@ impl Recogniser {
         }
         if let Some(node) = self.read_replaced(view) {
             return Reading::New(node);
+        }
+        if let Some(node) = self.read_without_one(view) {
+            return Reading::Held(node);
         }
         self.read_shadow(view)
     }
@@ -127,7 +135,7 @@ impl Recogniser {
     // Whether a piece was put down while one of the other side was in a hand.
     fn has_held(&self) -> bool {
         for k in 0..self.memory.seen.len() {
-            if self.memory.seen[k].is_held {
+            if self.memory.seen[k].is_held && !self.memory.seen[k].lacks_one {
                 return true;
             }
         }
@@ -318,6 +326,78 @@ impl Recogniser {
         None
     }
 
+    // A half-move while one piece is gone, if nothing is in doubt.
+    fn read_without_one(&self, view: &View) -> Option<Node>
+        ensures linked { (shown : List (List Piece)) → Contains shown (pieces_of view.now.shown)
+            → IfSome result (λ node. Reads shown self.now.memory (Reading.Held node)) }
+        ensures at { IfSome result
+            (λ node. ReadsView self.now.memory view.now (Reading.Held node)) }
+        ensures room { IfSome result (IsRoomFor self.now.memory) }
+        ensures begins { IfSome result (λ node. halves_of node.step.way ≡ 1) }
+        ensures lacks { IfSome result (λ node. node.lacks_one ≡ true) }
+        ensures doubt { (self.now.is_behind ≡ true) ⊎ (self.now.is_set_up ≡ true)
+            → result ≡ None }
+        ensures stayed { IfSome result (AfterStayed self.now.memory) }
+        ensures reads { IsLive self.now → self.now.is_behind ≡ false
+            → self.now.is_set_up ≡ false
+            → GoneFrom self.now.memory (Place.Line 0) (pieces_of view.now.shown)
+            → IsSome result }
+    {
+        if self.is_behind || self.is_set_up {
+            return None;
+        }
+        let len = self.memory.seen.len();
+        for at in 0..len {
+            if let Some(node) = self.without_one_after(len - 1 - at, view) {
+                return Some(node);
+            }
+        }
+        if self.is_live() {
+            self.without_one(Place::Line(0), view)
+        } else {
+            None
+        }
+    }
+
+    // The same after a node that was seen.
+    fn without_one_after(&self, k: usize, view: &View) -> Option<Node>
+        ensures linked { (shown : List (List Piece)) → Contains shown (pieces_of view.now.shown)
+            → IfSome result (λ node. Reads shown self.now.memory (Reading.Held node)) }
+        ensures at { IfSome result
+            (λ node. ReadsView self.now.memory view.now (Reading.Held node)) }
+        ensures room { IfSome result (IsRoomFor self.now.memory) }
+        ensures begins { IfSome result (λ node. halves_of node.step.way ≡ 1) }
+        ensures lacks { IfSome result (λ node. node.lacks_one ≡ true) }
+        ensures stayed { IfSome result (AfterStayed self.now.memory) }
+    {
+        let before = self.memory.seen_node(k)?;
+        if self.is_shadow(&before) || !has_stayed(&before) {
+            return None;
+        }
+        self.without_one(Place::Seen(k), view)
+    }
+
+    fn without_one(&self, place: Place, view: &View) -> Option<Node>
+        ensures linked { (shown : List (List Piece)) → Contains shown (pieces_of view.now.shown)
+            → IfSome result (λ node. Reads shown self.now.memory (Reading.Held node)) }
+        ensures at { IfSome result
+            (λ node. ReadsView self.now.memory view.now (Reading.Held node)) }
+        ensures room { ((k : ℕ) → place ≡ Place.Line k → k ≤ 4)
+            → IfSome result (IsRoomFor self.now.memory) }
+        ensures begins { IfSome result (λ node. halves_of node.step.way ≡ 1) }
+        ensures lacks { IfSome result (λ node. (node.lacks_one ≡ true)
+            × (node.step.parent ≡ place)) }
+        ensures reads { GoneFrom self.now.memory place (pieces_of view.now.shown)
+            → IsSome result }
+    {
+        let from = self.memory.node(place)?;
+        let shown = view.from(from.step.is_turned);
+        let (one, state) = half_move_without_one(&from.step.state, shown)?;
+        let mut node = self.follow(&from, place, Way::Made(one), state);
+        node.lacks_one = true;
+        Some(node)
+    }
+
     /// The node with the same half-moves after the same place, if there is one.
     pub(crate) fn same_node(&self, node: &Node) -> Option<usize>
         ensures { IfSome result (λ k. (step : Step)
@@ -403,10 +483,20 @@ impl Recogniser {
     {
         match (place, self.memory.node(place)) {
             (_, None) => false,
-            (Place::Seen(k), Some(node)) => {
-                !self.is_shadow(&node) && (self.is_behind || !self.has_slid(k))
-            }
+            (Place::Seen(k), Some(_)) => self.may_jump_from(k),
             _ => self.is_live(),
+        }
+    }
+
+    // The same after a node that was seen.
+    fn may_jump_from(&self, k: usize) -> bool
+        ensures { IsTrue result → IfSome (slice_get self.now.memory.seen.items k) HasStayed }
+    {
+        match self.memory.seen_node(k) {
+            Some(node) => {
+                !self.is_shadow(&node) && has_stayed(&node) && (self.is_behind || !self.has_slid(k))
+            }
+            None => false,
         }
     }
 
@@ -818,7 +908,8 @@ impl Recogniser {
         } }
         ensures sure { result.is_sure ≡ false }
         ensures now { (result.at ≡ self.now.since) × (result.left ≡ self.now.since)
-            × (result.is_held ≡ false) × (result.was_behind ≡ self.now.is_behind) }
+            × (result.is_held ≡ false) × (result.was_behind ≡ self.now.is_behind)
+            × (result.lacks_one ≡ false) }
         ensures path { GoesOnBy from.now result }
     {
         let origin = match parent {
@@ -841,6 +932,7 @@ impl Recogniser {
             left: self.since,
             is_sure: false,
             is_held: false,
+            lacks_one: false,
             is_quick: self.is_quick(from, parent, way),
             was_behind: self.is_behind,
             jumps: way.is_jump() || !is_told && from.jumps,
@@ -896,9 +988,16 @@ fn put_back(shown: &Position, state: &State) -> Position {
     whole
 }
 
+/// Whether one piece was gone for longer than hands lift it, if one was.
+pub(crate) fn has_stayed(node: &Node) -> bool
+    ensures { IsTrue result ↔ HasStayed node.now }
+{
+    !node.lacks_one || node.rested() >= SETTLE
+}
+
 // Whether all of a state is shown but pieces of the side to move.
 fn is_held(shown: &Position, state: &State) -> bool
-    ensures { IsTrue result → IsHeld (pieces_of shown.now) state.now }
+    ensures { IsTrue result → LacksMen (pieces_of shown.now) state.now }
 {
     for at in 0..64u8 {
         let square = Square::from_small(at);

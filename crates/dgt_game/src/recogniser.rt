@@ -429,7 +429,9 @@ impl Recogniser {
             → FollowsSeen self.old.memory (pieces_of view.now.shown)
             → self.new.here ≢ Place.Nowhere }
         ensures unread { length self.old.memory.seen.items < 23
-            → (self.new.here ≢ Place.Nowhere) ⊎ (self.new.returned ≡ self.old.returned) }
+            → (self.new.here ≢ Place.Nowhere) ⊎ ((self.new.returned ≡ self.old.returned)
+            × (self.new.is_behind ≡ self.old.is_behind)
+            × (self.new.is_set_up ≡ false → self.old.is_set_up ≡ false)) }
         ensures sure { (sure : List (List Piece)) → IsTold self.old.memory
             → (self.old.is_sure ≡ true → Contains sure (pieces_of view.now.shown))
             → WereSure sure self.old.memory self.old.returned
@@ -634,7 +636,8 @@ impl Recogniser {
         }
     }
 
-    // The board shows a node but for pieces in hands. It isn't reported before they are put down.
+    // The board shows a node but for pieces in hands, or for one that is gone. It isn't reported
+    // before they are put down.
     fn hold(&mut self, node: Node)
         ensures holds { (shown : List (List Piece)) (line : List Told)
             → self.old.memory.back ≡ 0 → self.old.memory.unsaid.items ≡ []
@@ -722,8 +725,8 @@ impl Recogniser {
         self.add(node, false);
     }
 
-    // Adds a node, at which the board is now, but for pieces in hands if it is held. It may answer
-    // the half-move before.
+    // Adds a node, at which the board is now, but for pieces that are missing if it is held. It may
+    // answer the half-move before.
     pub(crate) fn add(&mut self, node: Node, is_held: bool)
         ensures holds { (shown : List (List Piece)) (line : List Told)
             → self.old.memory.back ≡ 0 → self.old.memory.unsaid.items ≡ []

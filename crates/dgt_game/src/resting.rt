@@ -7,6 +7,7 @@ ghost use Rattle.dgt_game.specs.declared.resting.Task.{Task};
 
 use crate::event::Event;
 use crate::node::{Node, Origin, Place, Way};
+use crate::reading::has_stayed;
 use crate::recogniser::{Over, Recogniser, Search};
 use crate::times::*;
 use dgt_chess::Move;
@@ -34,6 +35,7 @@ impl Recogniser {
     ghost use Rattle.dgt_game.specs.Recogniser.{Knows, Reports, Stays};
     ghost use Rattle.dgt_game.specs.Finding.{FindsLater, IsFound};
     ghost use Rattle.dgt_game.specs.Planning.{RestsAfter, RestsBefore, SearchesSoon, TaskFits, IsAtLast, IsPlanned, MayNotBegin, Plans, PlansPosition, todo, HasNothing, IsLostOr, StaysPlaced, WhyHopeless};
+    ghost use Rattle.dgt_game.specs.Missing.{HasStayed};
     ghost use Rattle.dgt_game.specs.Settling.{CallsForRest, IsNotPressed, StaysShown};
     ghost use Rattle.dgt_game.specs.Standing.{IsThere, ShowsHere, Stands};
     ghost use Rattle.dgt_game.specs.Sure.{KeepsSure, StaysSure};
@@ -332,13 +334,18 @@ impl Recogniser {
 
     /// Whether a half-move after a node means that the node was meant.
     pub(crate) fn is_answered(&self, parent: usize, node: &Node) -> bool
-        ensures { IsTrue result → MatchOption (slice_get self.now.memory.seen.items parent) ⊥
+        ensures sure { IsTrue result → MatchOption (slice_get self.now.memory.seen.items parent) ⊥
             (λ before. before.is_sure ≡ true) }
+        ensures stayed { IsTrue result
+            → IfSome (slice_get self.now.memory.seen.items parent) HasStayed }
     {
         let Some(before) = self.memory.seen.get(parent) else {
             return false;
         };
         if !before.is_sure || node.origin == Origin::Shadow {
+            return false;
+        }
+        if !has_stayed(before) {
             return false;
         }
         if node.step.way.is_jump() || self.has_slid(parent) || self.slides_on(before, node) {

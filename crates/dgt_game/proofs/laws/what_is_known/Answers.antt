@@ -1,4 +1,5 @@
-use Rattle.dgt_game.proofs.Pictures.{earlier_known, else_start, moves_known, start_known, two_known}
+use Rattle.dgt_game.proofs.Pictures.{earlier_known, else_start, gone_known, moves_known, start_known, two_known}
+use Rattle.dgt_game.proofs.Gone.{lifted_not_gone, theirs_is_only}
 use Rattle.dgt_game.proofs.laws.what_is_known.Goals as goal
 
 pub returns-clause-moves : goal.returns-clause-moves
@@ -18,3 +19,12 @@ returns-clause-others c = else_start
 
 pub returns-clause-live : goal.returns-clause-live
 returns-clause-live c = λ self live. live.0
+
+pub returns-clause-gone : goal.returns-clause-gone
+returns-clause-gone c = gone_known
+
+pub returns-clause-theirs : goal.returns-clause-theirs
+returns-clause-theirs c = theirs_is_only
+
+pub returns-clause-lifted : goal.returns-clause-lifted
+returns-clause-lifted c = lifted_not_gone

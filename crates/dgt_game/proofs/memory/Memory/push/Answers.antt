@@ -64,6 +64,7 @@ returns-clause-whole c =
           ∙ last_item old new c.len-len.result len,
       refl,
       refl,
+      refl,
     )
 
 pub returns-clause-rooted : goal.returns-clause-rooted

@@ -61,6 +61,7 @@ returns-clause-is c =
       ap (λ (s : Step). s.way) after.step,
       after.rest.0,
       after.rest.1,
+      after.rest.2,
     )
 
 pub returns-clause-sure : goal.returns-clause-sure

@@ -1,5 +1,6 @@
-use Rattle.{std.{proofs.Common.{◌≡◌, ◌∙◌, ◌<◌, inl, inr, Bool, [], length, ap, refl, subst, sym, true}, specs.Prelude.{◌≢◌, Contains}}, dgt_values.specs.Board.{pieces_of}}
-use Rattle.dgt_game.{specs.{declared.{memory.Memory.{Memory}, node.Place.{Place}}, Memory.{Holds, Reads}, Reading.{IsRead}}, proofs.{Known.{memory_of, view_of}, Pictures.{SomeState, king_seen}}}
+use Rattle.{std.{proofs.Common.{◌≡◌, ◌∙◌, ◌<◌, inl, inr, Bool, [], length, ap, false, refl, subst, sym, true}, specs.Prelude.{◌≢◌, Contains}}, dgt_values.specs.Board.{pieces_of}}
+use Rattle.dgt_game.specs.{declared.{memory.Memory.{Memory}, node.Place.{Place}}, Memory.{Holds, Reads}, Reading.{IsRead}}
+use Rattle.dgt_game.proofs.{Known.{memory_of, view_of}, Pictures.{SomeState, SomeWithout, king_left, king_seen}}
 use Rattle.dgt_game.proofs.{Pictures.{at_line, few_same, live_same, over_of, since_of, known_same, read_or_not, returned_of, seen_state, state_of}, recogniser.Recogniser.look.Goals.{then-has_white+then-has_black, After-take}}
 use Rattle.{std.{proofs.{Common.{rules, arith, ◌⊎◌}, lemmas.Bool.{false≢true}}}, dgt_game.{specs.Planning.{HasKing}, proofs.Planning.{either_side}}}
 use Rattle.{std.proofs.Common.{rules}, dgt_game.{specs.declared.recogniser.Recogniser.{Recogniser}, proofs.Waiting.{not_found}}}
@@ -16,6 +17,25 @@ kept c = elim c.if-has_white.branch [
   | else-has_white w ↦ rw w.self-is (refl, refl, refl, refl, refl, refl)
 ]
 
+same_behind : (c : After-take) → c.if-has_white.self.is_behind ≡ c.args.self.now.is_behind
+same_behind c =
+    let behind = λ (r : Recogniser). r.is_behind in
+    elim c.if-has_white.branch [
+      | then-has_white+then-has_black w ↦ ap behind w.self-is
+      | else-has_white w ↦ ap behind w.self-is
+    ]
+
+was_set_up : (c : After-take) → c.if-has_white.self.is_set_up ≡ false
+    → c.args.self.now.is_set_up ≡ false
+was_set_up c e = elim c.if-has_white.branch [
+  | then-has_white+then-has_black w ↦
+      let is = sym (ap (λ (r : Recogniser). r.is_set_up) w.self-is) ∙ e in
+      search (rules, is)
+  | else-has_white w ↦
+      let is = sym (ap (λ (r : Recogniser). r.is_set_up) w.self-is) ∙ e in
+      search (rules, is)
+]
+
 pub returns-clause-holds : goal.returns-clause-holds
 returns-clause-holds c = λ shown line back unsaid seen holds.
     let reading = c.read_by_kings-reading.result in
@@ -26,6 +46,19 @@ returns-clause-holds c = λ shown line back unsaid seen holds.
     subst (λ (m : Memory). m.back ≡ 0 → m.unsaid.items ≡ [] → Reads shown m reading
     → Holds shown line m → Holds shown line c.take.new.self.memory)
     (c.look_at_kings.ensures.same ∙ same) (c.take.ensures.holds shown line) back unsaid reads holds
+
+-- a picture that shows a state but for one piece shows its kings
+kings_left : (c : After-take) → SomeWithout (pieces_of c.args.view.now.shown)
+    → (c.has_king-has_white.result ≡ true) × (c.has_king-has_black.result ≡ true)
+kings_left c (state, (turned, (gone, lacks))) =
+    let view = c.args.view.now in
+    let king = λ (colour : Colour) (found : Bool).
+    king_left state turned (pieces_of view.shown) gone colour found view.shown.all lacks in (
+      king Colour.White c.has_king-has_white.result (λ square less e.
+          c.has_king-has_white.ensures.1 (square, less, e)),
+      king Colour.Black c.has_king-has_black.result (λ square less e.
+          c.has_king-has_black.ensures.1 (square, less, e)),
+    )
 
 -- a picture that shows a state shows its kings
 kings_seen : (c : After-take) → SomeState (pieces_of c.args.view.now.shown)
@@ -53,9 +86,20 @@ returns-clause-reads c = λ few known.
     let old = c.args.self.now in
     let view = c.args.view.now in
     let (memory, _, over, since, returned, _) = kept c in
-    let (white, black) = kings_seen c (state_of old view known) in
+    let kings : (c.has_king-has_white.result ≡ true) × (c.has_king-has_black.result ≡ true) =
+    elim (state_of old view known) [
+      | inl some ↦ kings_seen c some
+      | inr some ↦ kings_left c some
+    ] in
+    let (white, black) = kings in
+    let set_up : old.is_set_up ≡ false → c.if-has_white.self.is_set_up ≡ false =
+    λ e. elim c.if-has_white.branch [
+      | then-has_white+then-has_black w ↦ rw w.self-is (search (rules, e, white))
+      | else-has_white w ↦ rw w.self-is (search (rules, e, white))
+    ] in
     taken c few (c.read_by_kings-reading.ensures.reads (known_same old c.if-has_white.self view
-    (ap (λ (m : Memory). m.line) memory) over since returned known) white black)
+    (ap (λ (m : Memory). m.line) memory) over since returned (λ e. same_behind c ∙ e) set_up known)
+    white black)
 
 pub returns-clause-repeated : goal.returns-clause-repeated
 returns-clause-repeated c = λ live repeated k three here.
@@ -71,7 +115,16 @@ returns-clause-repeated c = λ live repeated k three here.
 pub returns-clause-unread : goal.returns-clause-unread
 returns-clause-unread c = λ few. elim (read_or_not c.read_by_kings-reading.result) [
   | inl read ↦ inl (taken c few read)
-  | inr none ↦ inr (c.take.ensures.unread none ∙ c.look_at_kings.ensures.returned ∙ (kept c).4)
+  | inr none ↦ elim c.take.ensures.behind [
+    | inl same ↦ inr (
+      c.take.ensures.unread none ∙ c.look_at_kings.ensures.returned ∙ (kept c).4,
+      same ∙ c.look_at_kings.ensures.behind ∙ same_behind c,
+      λ e. was_set_up c (sym (c.take.ensures.set_up none ∙ c.look_at_kings.ensures.set_up) ∙ e),
+    )
+    | inr (sure, last) ↦ inl (λ nowhere.
+        let wrong : Place.Line 0 ≡ Place.Nowhere = sym last ∙ nowhere in
+        cc)
+  ]
 ]
 
 pub returns-clause-seen : goal.returns-clause-seen
@@ -102,16 +155,14 @@ returns-clause-sure c = λ sure told shown h.
 
 pub returns-clause-behind : goal.returns-clause-behind
 returns-clause-behind c =
-    let behind = λ (r : Recogniser). r.is_behind in
     let astray = λ (r : Recogniser). r.is_astray in
-    let same : (behind c.if-has_white.self ≡ behind c.args.self.now)
-    × (astray c.if-has_white.self ≡ astray c.args.self.now) = elim c.if-has_white.branch [
-      | then-has_white+then-has_black w ↦ (ap behind w.self-is, ap astray w.self-is)
-      | else-has_white w ↦ (ap behind w.self-is, ap astray w.self-is)
+    let same : astray c.if-has_white.self ≡ astray c.args.self.now = elim c.if-has_white.branch [
+      | then-has_white+then-has_black w ↦ ap astray w.self-is
+      | else-has_white w ↦ ap astray w.self-is
     ] in
     let kings = c.look_at_kings.ensures in
     elim c.take.ensures.behind [
-      | inl is ↦ inl (is.0 ∙ kings.behind ∙ same.0, is.1 ∙ kings.astray ∙ same.1)
+      | inl is ↦ inl (is.0 ∙ kings.behind ∙ same_behind c, is.1 ∙ kings.astray ∙ same)
       | inr last ↦ inr last
     ]
 

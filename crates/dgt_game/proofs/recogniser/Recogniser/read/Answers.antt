@@ -18,6 +18,11 @@ pub returns-in-Some-read_held-clause-linked : goal.returns-in-Some-read_held-cla
 returns-in-Some-read_held-clause-linked c = λ shown line holds seen.
     c.in-Some-read_held.ensures.linked shown seen
 
+pub returns-in-Some-read_without_one-clause-linked :
+    goal.returns-in-Some-read_without_one-clause-linked
+returns-in-Some-read_without_one-clause-linked c = λ shown line holds seen.
+    c.in-Some-read_without_one.ensures.linked shown seen
+
 pub returns-in-Some-read_replaced-clause-linked : goal.returns-in-Some-read_replaced-clause-linked
 returns-in-Some-read_replaced-clause-linked c = λ shown line holds seen.
     reads shown c.args.self.now.memory (pieces_of c.args.view.now.shown)

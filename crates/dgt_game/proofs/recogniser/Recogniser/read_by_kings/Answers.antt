@@ -16,7 +16,10 @@ returns-then-has_black-clause-reads c = λ known white black.
           | inl one ↦ near_read c.read.result (read.reads one.0 one.1)
           | inr more ↦ elim more [
             | inl two ↦ read.jumps two.0 two.1 two.2
-            | inr last ↦ rw (read.last last.0 last.1) tt
+            | inr more ↦ elim more [
+              | inl last ↦ rw (read.last last.0 last.1) tt
+              | inr gone ↦ read.gone gone.0 gone.1 gone.2 gone.3
+            ]
           ]
         ]
       ]

@@ -28,6 +28,11 @@ returns-in-New-clause-sure c = λ sure view told shown reads begins h.
     c.add.ensures.sure sure (λ e. was_shown sure (told_of c.in-New.node.step)
     (pieces_of view.shown) (shown e) same) h
 
+pub returns-in-Held-clause-stands : goal.returns-in-Held-clause-stands
+returns-in-Held-clause-stands c = λ view ready seen reads.
+    c.hold.ensures.stands view ready seen
+    (subst (ReadsView c.args.self.now.memory view) c.in-Held.is reads)
+
 pub returns-in-Held-clause-sure : goal.returns-in-Held-clause-sure
 returns-in-Held-clause-sure c = λ sure view told shown reads begins h.
     let step = c.in-Held.node.step in
