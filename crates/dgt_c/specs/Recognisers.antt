@@ -15,8 +15,6 @@ use Rattle.dgt_game.specs.Reading.{FollowsSeen, IsExplained}
 use Rattle.dgt_game.specs.Recogniser.{GoesOn, Knows, Reports, Sees, picture_of, pictured}
 use Rattle.dgt_game.specs.Settling.{GoesAstray, IsAnswered}
 use Rattle.dgt_game.specs.Standing.{IsThere, Stands}
-use Rattle.dgt_game.specs.declared.staying.TheConstants.{NONE_STAYS}
-use Rattle.dgt_game.specs.Staying.{after_step}
 use Rattle.dgt_game.specs.Sure.{KnowsSure, SeesSure, StaysSure}
 use Rattle.dgt_game.specs.Timing.{Due, IsIdle, Marks}
 use Rattle.dgt_game.specs.Told.{Told, told_pieces}
@@ -98,7 +96,7 @@ pub record HasGoneOn (state : State) (is_turned : Bool) (new : Recogniser) : Typ
   }) ∷ []) new
   pub right : Waits new
   pub anew : (has_result new.over ≡ false) × (is_lost new.lost ≡ false)
-  pub staying : new.staying ≡ after_step NONE_STAYS
+  pub staying : new.staying ≡ record { loose = 1; own = 1; is_back = false; stays = false }
   pub start : MatchOption (slice_get new.memory.line.items 0) ⊥
       (λ node. node.origin ≡ Origin.Start)
   -- what it keeps
