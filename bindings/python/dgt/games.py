@@ -30,6 +30,7 @@ _MOST_SEEN = 256
 _BROKEN_OFF = "broken off: the board was away, and came back with another position"
 _LOST = "broken off: no move leads to the position after this"
 _GAP = "broken off: the board did not show the order of the next {} half-moves"
+_START = GameState.start()
 
 
 class GameStore(Protocol):
@@ -87,7 +88,7 @@ class Games(Uncopied):
         self._text = _GameText(PgnGame())
         self._port = port
         self._tell, self._warn, self._file, self._tags = tell, warn, file, tags or {}
-        self._letters, self._changed_at, self._away = "", 0.0, ""
+        self._view, self._letters, self._changed_at, self._away = BoardView(), "", 0.0, ""
         self._clock: Times | None = None
         # The positions since the last move, with the clock of that time.
         self._seen: deque[tuple[str, Times | None]] = deque(maxlen=_MOST_SEEN)
@@ -136,7 +137,8 @@ class Games(Uncopied):
 
     def see(self, view: BoardView, now: float) -> None:
         """Notes the view from this time on. `TypeError` if it isn't a `BoardView`."""
-        self._note_away(checked(view, BoardView))
+        self._view = checked(view, BoardView)
+        self._note_away(view)
         self._note_clock(view.clock, now)
         letters = view.picture.letters if view.picture else ""
         if letters and letters != self._letters:
@@ -152,8 +154,10 @@ class Games(Uncopied):
             self._hidden = ""
             self._take(self._watched.see(view, now), now)
         if is_sure:
+            if self._over == "arbiter" and self._was_empty and self._shown == _START.letters:
+                self._begin_next([], now)  # for the recogniser nothing may have changed
             self._was_away &= not self._is_as_told
-            self._was_empty |= not {"K", "k"} & {*letters}
+            self._was_empty |= self._has_no_kings
             self._learner.see(self._shown, self._clock)
         self._await_loss(is_sure)
         self._learn()
@@ -240,6 +244,10 @@ class Games(Uncopied):
     def _shown(self) -> str:
         """The letters on the board, from White's point of view."""
         return self._watched.from_white(self._letters)
+
+    @property
+    def _has_no_kings(self) -> bool:
+        return bool(self._letters) and not {"K", "k"} & {*self._letters}
 
     @property
     def _is_as_told(self) -> bool:
@@ -340,9 +348,8 @@ class Games(Uncopied):
     # ---- What has happened
 
     def _take(self, events: list[GameEvent], now: float) -> None:
-        if self._over == "arbiter":  # the board may go on, until another position was set up
-            events = [event for event in events if isinstance(event, Begun) and (
-                event.state == State.start() or self._was_empty)]
+        if self._over == "arbiter":
+            events = self._after_arbiter(events, now)
         self._taken = {}
         is_replaced = [type(event) for event in events] == [Back, Made]
         is_found = not any(isinstance(event, Begun | Gap) for event in events)
@@ -376,6 +383,31 @@ class Games(Uncopied):
                         self._find()
         if self._over and self.game and not self.game.moves and self._is_as_told:
             self._begin(self.game.start)  # nobody came to the game before
+
+    def _after_arbiter(self, events: list[GameEvent], now: float) -> list[GameEvent]:
+        """Returns the events after a result by hand that count. The board may go on, until another
+        position was set up. The initial one may be that of the game, with moves taken back."""
+        for number, event in enumerate(events):
+            if isinstance(event, Begun) and (event.state == State.start() or self._was_empty):
+                return events[number:]
+        state = self._watched.state
+        if not events or state is None:
+            return []
+        moves = list[str]()
+        for event in events:
+            moves = [*moves, event.move] if isinstance(event, Made) else []
+        if state.letters == _START.letters:
+            self._begin_next([], now)
+        elif moves and (states := _played(moves)) and states[-1].letters == state.letters:
+            self._begin_next(moves, now)
+        return []
+
+    def _begin_next(self, moves: Sequence[str], now: float) -> None:
+        """Begins a game after a result by hand, with these moves."""
+        self._watched.go_on([_START, *_played(moves)], self.turned, now)
+        self._begin(_START)
+        self._make(moves)
+        self._take(self._watched.see(self._view, now), now)
 
     def _begin(self, state: GameState) -> None:
         game = self.game
@@ -440,7 +472,7 @@ class Games(Uncopied):
 
     def _end(self, result: str, why: str, now: float) -> None:
         assert self.game is not None
-        self.game.result, self._over, self._was_empty = result, why, False
+        self.game.result, self._over, self._was_empty = result, why, self._has_no_kings
         self._final_at = now + _FINAL_WAIT if why in ("mate", "stalemate") else now
         self._report(f"result {result} {why}")
 
@@ -522,6 +554,16 @@ class Games(Uncopied):
 def _with(old: dict[str, str], new: dict[str, str]) -> dict[str, str]:
     """Tags with new ones, of which an empty text removes one."""
     return {name: text for name, text in {**old, **new}.items() if text or name not in new}
+
+
+def _played(moves: Sequence[str]) -> list[GameState]:
+    """Returns the states of a game after each of these moves, until one is illegal."""
+    states = [_START]
+    for move in moves:
+        if not states[-1].chess.is_legal(move):
+            break
+        states.append(states[-1].after(move))
+    return states[1:]
 
 
 def _is_left(side: str) -> bool:
