@@ -473,11 +473,16 @@ class Games(Uncopied):
     def _end(self, result: str, why: str, now: float) -> None:
         assert self.game is not None
         self.game.result, self._over, self._was_empty = result, why, self._has_no_kings
+        self._lost, self._advice, self._is_lost, self._lost_at = {}, "", False, None
+        if why != "arbiter" and not self._gaps:
+            self.game.comment = ""
         self._final_at = now + _FINAL_WAIT if why in ("mate", "stalemate") else now
         self._report(f"result {result} {why}")
 
     def _await_loss(self, is_sure: bool) -> None:
         """Notes when to report that the game is lost."""
+        if self._over:
+            return
         wrong = self._wrong if self._is_lost and is_sure else self._lost
         wait = _SETTING_UP_WAIT if len(wrong) > _MOST_WRONG else _LOST_WAIT
         self._lost_at = None if wrong == self._lost else self._changed_at + wait
