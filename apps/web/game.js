@@ -19,6 +19,9 @@ export class Game {
   result = "*";
   isLost = false; // no moves lead to what the board shows
   changes = 0; // how often any of these changed
+  /** @type {Entry[]} what is taken back, and not made again: the first one last */
+  #back = [];
+  #held = 0; // as many entries stay, whatever is taken back
   #isTurned = false;
   /** @type {ArrayLike<number>} what the board shows */
   #seen = [];
@@ -49,17 +52,24 @@ export class Game {
     switch (type) {
       case "begun":
         this.line = [{ state: event.state, text: "", count: 0 }];
+        [this.#back, this.#held] = [[], 0];
         this.#isTurned = event.isTurned;
         break;
       case "made": return this.#move(event.move);
       case "unseen": return event.moves.forEach(move => this.#move(move));
       case "gap": {
         const { state, count } = event;
+        this.#branch();
         this.line.push({ state, count, text: `(${count} moves not seen)` });
         break;
       }
       case "back":
-        for (let { count } = event; count > 0;) count -= this.line.pop()?.count || count;
+        if (event.stays) this.#held = this.line.length + this.#back.length;
+        for (let { count } = event; count > 0;) {
+          const entry = this.line.pop();
+          if (entry) this.#back.push(entry);
+          count -= entry?.count || count;
+        }
         break;
       case "lost": case "found": this.isLost = type === "lost";
     }
@@ -69,7 +79,21 @@ export class Game {
   #move(move) {
     const { state, count } = this.line[this.line.length - 1], { turn, number } = state;
     const first = turn === "white" ? `${number}. ` : count === 1 ? "" : `${number}... `;
-    this.line.push({ state: state.play(move), text: first + state.san(move), count: 1 });
+    const entry = { state: state.play(move), text: first + state.san(move), count: 1 };
+    const before = this.#back.pop();
+    if (before && before.state.fen !== entry.state.fen) this.#branch();
+    this.line.push(entry);
+  }
+
+  /** Whether the game stays as it was, though moves of it are taken back. */
+  get stays() {
+    return this.#held > this.line.length;
+  }
+
+  // Other moves follow than those taken back. If these stay, another game goes on from here.
+  #branch() {
+    if (this.stays) [this.line, this.#held] = [[...this.line], 0];
+    this.#back = [];
   }
 
   /** The moves with their numbers. */

@@ -28,7 +28,8 @@ export class Games {
 
   /**
    * Keeps a game, also while it goes on. Pieces that are set up one by one look like moves that are
-   * taken back, so these are kept until the next move. At the starting position a game begins.
+   * taken back, so these are kept until the next move, and for good if they stay: then another game
+   * goes on from there. At the starting position a game begins.
    * @param {import("./game.js").Game} game
    */
   keep(game) {
@@ -38,7 +39,7 @@ export class Games {
     if (line !== this.#of || line.length < 2) this.at = Date.now();
     [this.#of, this.#count, this.#changes] = [line, line.length, changes];
     const { moves, result, pgn } = game;
-    if (!moves.length || isTakenBack) return;
+    if (!moves.length || isTakenBack || game.stays) return;
     const kept = { at: this.at, moves: moves.join(" "), result, pgn };
     this.#change(all => [kept, ...all.filter(({ at }) => at !== kept.at)]);
   }

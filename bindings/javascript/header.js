@@ -119,7 +119,8 @@ export const STRUCTS = /** @type {const} */ ({
                                         },
   game_event: { size: 128, members: [["kind", 0, "u8"], ["count", 1, "u8"], ["result", 2, "u8"],
                                      ["turned", 3, "u8"], ["moves", 4, 16],
-                                     ["state", 20, "chess_state"], ["squares", 120, "wide"]] },
+                                     ["state", 20, "chess_state"], ["stays", 100, "u8"],
+                                     ["squares", 120, "wide"]] },
 });
 
 // What each call returns, and what it takes.

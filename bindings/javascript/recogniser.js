@@ -35,7 +35,7 @@ const RESULT_TEXTS = { [RESULTS.whiteWins]: "1-0", [RESULTS.blackWins]: "0-1",
  *   {type: "made", move: string} |
  *   {type: "unseen", moves: string[]} |
  *   {type: "gap", count: number, state: State} |
- *   {type: "back", count: number} |
+ *   {type: "back", count: number, stays: boolean} |
  *   {type: "ended", result: GameResult} |
  *   {type: "lost", squares: string[]} |
  *   {type: "found"}
@@ -54,7 +54,8 @@ const RESULT_TEXTS = { [RESULTS.whiteWins]: "1-0", [RESULTS.blackWins]: "0-1",
  *   line of as many leads there |
  * | gap | `count` moves were made, and only the position after the last was shown. Some legal line
  *   of as many leads to this state, but it isn't known which was made |
- * | back | `count` moves are taken back: those of the last made, unseen or gap |
+ * | back | `count` moves are taken back: those of the last made, unseen or gap. If it stays, what
+ *   is taken back since moves were made last stays: keep the game with it, too |
  * | ended | the game has ended |
  * | lost | no moves lead to what the board shows: these squares differ from the last state's |
  * | found | the board shows a position of the game again |
@@ -146,7 +147,7 @@ export class Recogniser extends Handle {
       case GAMES.unseen:
         return { type: "unseen", moves: Array.from({ length: count }, (_, n) => move(n)) };
       case GAMES.gap: return { type: "gap", count, state: this.#state(at + AT.state) };
-      case GAMES.back: return { type: "back", count };
+      case GAMES.back: return { type: "back", count, stays: dgt.bytes(at + AT.stays, 1)[0] === 1 };
       case GAMES.ended: return { type: "ended", result: RESULT_TEXTS[result] };
       case GAMES.lost:
         return { type: "lost", squares: dgt.squares(at + AT.squares).map(n => dgt.squareName(n)) };

@@ -125,7 +125,7 @@ std::string text(const dgt::game::Gap &gap) {
 }
 
 std::string text(const dgt::game::Back &back) {
-    return "back " + std::to_string(back.count);
+    return "back " + std::to_string(back.count) + (back.stays ? " stays" : "");
 }
 
 std::string text(const dgt::game::Ended &ended) {

@@ -58,7 +58,7 @@ function said(event) {
     case "made": return event.move;
     case "unseen": return ["unseen", ...event.moves].join(" ");
     case "gap": return `gap ${event.count} ${event.state.fen}`;
-    case "back": return `back ${event.count}`;
+    case "back": return `back ${event.count}${event.stays ? " stays" : ""}`;
     case "ended": return event.result;
     case "lost": return ["lost", ...event.squares].join(" ");
     default: return event.type;

@@ -61,8 +61,8 @@ def said(event):
             return f"unseen {' '.join(moves)}"
         case Gap(count, state):
             return f"gap {count} {state.fen}"
-        case Back(count):
-            return f"back {count}"
+        case Back(count, stays):
+            return f"back {count}{' stays' * stays}"
         case Ended(result):
             return result
         case Lost(squares):

@@ -20,6 +20,7 @@ from wrong import Wrong
 
 INCREMENT = 5
 MOST_STEPS = 1000  # this number of steps without any time between them are a busy wait
+GOES_ON = "the next game goes on from the position "  # in the comment of a game that was taken back
 CENTRE = {"1-0": ("e4", "d5"), "0-1": ("e5", "d4"), "1/2-1/2": ("d4", "d5")}
 # What is counted of games that were played. Positions are those that had rested, and the last are
 # those of them whose moves weren't all known.
@@ -37,7 +38,7 @@ class Compared:
         return getattr(self.file, name)
 
     def put(self, text):
-        right = self.table.keeper.game.text()
+        right = self.table.keeper._kept.text()
         if text != right:
             raise Wrong(f"the text {text!r} has grown, and anew it is {right!r}")
         self.file.put(text)
@@ -162,6 +163,18 @@ class Table(games.Hand):
                 self.put(square, after[square])
             self.rest(1)
         return state
+
+    def take_back(self, moves, count, rest=1):
+        """Takes back the last of these moves of the game, one after another."""
+        states = [self.keeper.game.start]
+        for move in moves:
+            states.append(states[-1].after(move))
+        for _ in range(count):
+            before, after = states.pop().letters, states[-1].letters
+            changed = [square for square in range(64) if before[square] != after[square]]
+            for square in sorted(changed, key=lambda each: after[each] != "."):
+                self.put(square, after[square])
+            self.rest(rest)
 
     def set_up(self, letters, last="Kk"):
         """Takes all pieces off and puts others, these kinds last."""
@@ -335,7 +348,9 @@ def counts(game):
 
 
 def compare(seeds, path, played, results):
-    found = pgn_games.compare(path, dgt)
+    # Moves that were taken back may stay, in games of their own.
+    found = [kept for kept in pgn_games.compare(path, dgt)
+             if not any(GOES_ON in comment for comment in kept.comments)]
     if len(found) != len(played):
         raise Wrong(f"games {seeds}: the file has {len(found)} games of {len(played)}")
     for seed, game, result, kept in zip(seeds, played, results, found):

@@ -447,9 +447,12 @@ class Table:
             self.due = self.base[1] + due - self.base[0] + LATE
 
     def note_beginning(self) -> None:
-        """Notes a new game, which began with the present position."""
+        """Notes a new game, which began with the present position. One that goes on from moves of
+        the game before needs the rows since that began."""
         if self.begun != self.place.count:
-            self.begun, self.since, self.first = self.place.count, self.first, self.row
+            self.begun = self.place.count
+            if not self.games.is_branch:
+                self.since, self.first = self.first, self.row
 
     def name_players(self, players: tuple[str, str] | None) -> None:
         """Sets the players of the next game, and of this one if it has none or has just begun."""
@@ -610,14 +613,18 @@ class Collector:
             table.place.done.clear()
             return
         try:
-            for kept in table.place.done:
-                self.state.finish(name, kept.number, kept.text, self.row)
-                self.finished[name, kept.number] = self.row
+            self.store_done(name, table)
             self.state.cut(name, games, table.since, table.first)
         except sqlite3.Error as fault:
             report(f"the state can't be shortened: {fault} (the next game tries again)")
         else:
             table.place.done.clear()
+
+    def store_done(self, name: str, table: Table) -> None:
+        """Stores the texts of games that are finished. sqlite3.Error if that fails."""
+        for kept in table.place.done:
+            self.state.finish(name, kept.number, kept.text, self.row)
+            self.finished[name, kept.number] = self.row
 
     def lose(self, table: Table, at: float) -> None:
         """Notes that nobody watched the board up to this time."""
@@ -661,6 +668,7 @@ class Collector:
         table.rows += 1
         if table.rows > 2 * MOST_ROWS and self.is_last:
             table.rows, row = MOST_ROWS, self.state.row_of_last(table.place.board, MOST_ROWS)
+            self.store_done(table.place.board, table)
             self.state.cut(table.place.board, table.place.count - 1, row, row)
 
     def do(self, name: str, what: Callable[[Table], None]) -> None:
@@ -674,7 +682,7 @@ class Collector:
             report(f"{name!r}: its game is broken off\n{traceback.format_exc()}")
             return
         table.set_due()
-        if table.place.done:
+        if table.place.done and not table.games.is_branch:
             self.finish(name, table, table.place.count - 1)
         if (advice := table.games.advice) != table.advice:
             table.advice = advice

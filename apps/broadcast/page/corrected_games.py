@@ -153,8 +153,10 @@ class CorrectedGames(collector.Collector):
             self.keep_done(row, kept)
 
     def keep_done(self, row: int, kept: collector.Kept) -> None:
-        """Stores the text of a finished game, with the correction of a row."""
-        if self.is_last:
+        """Stores the text of a finished game, with the correction of a row. As long as another one
+        goes on from its moves, it is made and corrected again at the next start."""
+        table = self.tables.get(kept.board)
+        if self.is_last and (table is None or kept not in table.place.done):
             try:
                 self.state.finish(kept.board, kept.number, kept.text, row)
                 self.finished[kept.board, kept.number] = row

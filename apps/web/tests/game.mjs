@@ -106,6 +106,37 @@ gap.show(`r1bqkbnr/pppp1ppp/2n5/4p3/2B1P3/5N2/PPPP1PPP/RNBQK2R`);
 gap.show(OPEN[2]);
 assert.deepEqual(gap.moves, ["1. e4", "e5"], "a gap is taken back");
 
+// Moves that are taken back stay, and another game goes on from there, but for one or two that were
+// made shortly before.
+const { Games } = await import("../games.js");
+const stored = {};
+globalThis.localStorage = { getItem: key => stored[key], setItem: (key, text) => {
+  stored[key] = text;
+} };
+const KNIGHT = `${E4}/5N2/PPPP1PPP/RNBQKB1R`;
+const LINE = [...OPEN, `${BLACK}/${KNIGHT}`, `r1bqkbnr/pppp1ppp/2n5/4p3/${KNIGHT}`];
+for (const [back, right, kept] of [[3, true, ["1. e4 e5 2. Nf3 Nc6", "1. e4 e5 2. d4"]],
+                                   [2, false, ["1. e4 e5 2. d4"]]]) {
+  const game = shown([]), games = new Games();
+  for (const { at } of [...games.all]) games.remove(at);
+  const show = placement => {
+    game.show(placement);
+    games.keep(game);
+  };
+  for (const placement of LINE) show(placement);
+  for (let n = 0; n < back; n++) show(LINE[LINE.length - 2 - n]);
+  assert.equal(game.stays, right, `${back} taken back`);
+  if (back === 3) show(LINE[2]); // one of them is made again
+  assert.deepEqual(games.all.map(({ moves }) => moves), ["1. e4 e5 2. Nf3 Nc6"]);
+  await new Promise(done => setTimeout(done, 5)); // a game is known by when it began
+  show(`${BLACK}/3PP3/8/PPP2PPP/RNBQKBNR`);
+  assert.equal(game.stays, false);
+  assert.deepEqual(games.all.map(({ moves }) => moves).reverse(), kept);
+}
+const again = shown(LINE);
+for (const n of [3, 2, 1, 2, 3, 4]) again.show(LINE[n]);
+assert.deepEqual([again.stays, again.moves], [false, ["1. e4", "e5", "2. Nf3", "Nc6"]]);
+
 // No game begins without kings. The board may be turned: then its squares are those of the board.
 const turned = shown(["8/8/8/8/8/8/8/8"]);
 assert.equal(turned.lacks.slice(0, 8), "No moves");

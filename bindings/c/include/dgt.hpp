@@ -1530,8 +1530,9 @@ struct Unseen { std::vector<chess::Move> moves; };
 /// `count` moves were made, and only the position after the last was shown. Some legal line of as
 /// many leads to the state, but it isn't known which was made.
 struct Gap { unsigned count; chess::State state; };
-/// `count` moves are taken back: those of the last Made, Unseen or Gap.
-struct Back { unsigned count; };
+/// `count` moves are taken back: those of the last Made, Unseen or Gap. If `stays`, what is taken
+/// back since moves were made last stays: keep the game with it, too.
+struct Back { unsigned count; bool stays; };
 /// The game has ended.
 struct Ended { GameResult result; };
 /// No moves lead to what the board shows. Bit n is set if square n differs from the last state's.
@@ -1625,7 +1626,7 @@ private:
             return unseen;
         }
         case DGT_GAME_GAP: return game::Gap{event.count, chess::State(event.state)};
-        case DGT_GAME_BACK: return game::Back{event.count};
+        case DGT_GAME_BACK: return game::Back{event.count, event.stays != 0};
         case DGT_GAME_ENDED: return game::Ended{static_cast<GameResult>(event.result)};
         case DGT_GAME_LOST: return game::Lost{event.squares};
         default: return game::Found{};

@@ -314,8 +314,8 @@ class ChessFenReadStruct(Structure):
 
 class GameEventStruct(Structure):
     _fields_ = [("kind", u8), ("count", u8), ("result", u8), ("turned", u8),
-                ("moves", ChessMoveStruct * MAX_UNSEEN), ("state", ChessStateStruct),
-                ("reserved", u8 * 20), ("squares", u64)]
+                ("moves", ChessMoveStruct * MAX_UNSEEN), ("state", ChessStateStruct), ("stays", u8),
+                ("reserved", u8 * 19), ("squares", u64)]
 
 
 # How many bytes each handle takes.

@@ -13,6 +13,10 @@ Standard output gets a line for each event:
                                 clock
     undo 1. e4 e2e4             a move was taken back, or is replaced by the one
                                 in the next line
+    kept 5                      five half-moves that were taken back stay in the
+                                file, as the end of the game so far; the next
+                                line is in another game, which begins with the
+                                moves before them
     result 1-0 kings            the result, by the kings, mate or stalemate
     lost g3. g1N                the board rests in a position that no move leads
                                 to, until these squares are put right: g3 empty,
@@ -31,7 +35,10 @@ moves lead to a position, it begins one after a minute or three further moves.
 A move is printed once it has rested for 0.3 seconds and the board has confirmed
 it with a report of all squares, or once it was answered. While the clock of its
 player runs, it waits for three seconds. Pieces may be lifted in any order,
-slid, and put right. Moves may be taken back.
+slid, and put right. Moves may be taken back: one or two that were made shortly
+before are corrected. More of them, the last one after half a minute, and all of
+a game that has ended stay in the file, and the moves that follow instead are
+another game.
 
 The players give the result with their kings. They lift both, and put them for a
 second on

@@ -30,6 +30,10 @@ _MOST_SEEN = 256
 _BROKEN_OFF = "broken off: the board was away, and came back with another position"
 _LOST = "broken off: no move leads to the position after this"
 _GAP = "broken off: the board did not show the order of the next {} half-moves"
+_PARTED = "the next game goes on from the position {}"
+_SOON = 1.5
+"""The seconds within which hands that set up pieces go on."""
+_START = GameState.start()
 
 
 class GameStore(Protocol):
@@ -87,7 +91,7 @@ class Games(Uncopied):
         self._text = _GameText(PgnGame())
         self._port = port
         self._tell, self._warn, self._file, self._tags = tell, warn, file, tags or {}
-        self._letters, self._changed_at, self._away = "", 0.0, ""
+        self._view, self._letters, self._changed_at, self._away = BoardView(), "", 0.0, ""
         self._clock: Times | None = None
         # The positions since the last move, with the clock of that time.
         self._seen: deque[tuple[str, Times | None]] = deque(maxlen=_MOST_SEEN)
@@ -98,7 +102,11 @@ class Games(Uncopied):
         self._over, self._final_at = "", 0.0  # why the game is over
         self._lost, self._advice, self._is_lost = dict[str, str](), "", False
         self._lost_at: float | None = None
-        self._taken = dict[int, PgnMove]()  # back just now, by the number of moves with them
+        self._back = list[PgnMove]()  # moves that were taken back, the first one last
+        self._held = 0  # how many moves the file keeps, whatever is taken back
+        self._was = "*", ""  # the result before moves were taken back, and why
+        self._is_back_now, self._back_at, self._is_left_soon = False, -_SOON, False
+        self._is_branch = False
         # After the game's last move: half-moves in an unknown order, and the state after them.
         self._gaps: list[tuple[int, GameState]] = []
         self._save_at: float | None = None
@@ -129,6 +137,12 @@ class Games(Uncopied):
         return {} if self._over else dict(self._lost)
 
     @property
+    def is_branch(self) -> bool:
+        """Whether the game goes on from moves of the one before, which the file keeps as it was
+        before others were taken back."""
+        return self._is_branch
+
+    @property
     def advice(self) -> str:
         """What to put where while the game is `lost`, such as `put the white knight from g3 on f3`.
         Otherwise empty."""
@@ -136,10 +150,12 @@ class Games(Uncopied):
 
     def see(self, view: BoardView, now: float) -> None:
         """Notes the view from this time on. `TypeError` if it isn't a `BoardView`."""
-        self._note_away(checked(view, BoardView))
+        self._view = checked(view, BoardView)
+        self._note_away(view)
         self._note_clock(view.clock, now)
         letters = view.picture.letters if view.picture else ""
         if letters and letters != self._letters:
+            self._is_left_soon |= now < self._back_at + _SOON
             self._letters, self._changed_at = letters, now
             self._seen.append((letters, self._clock))
         is_sure = bool(letters) and not view.in_doubt and not view.away
@@ -152,8 +168,10 @@ class Games(Uncopied):
             self._hidden = ""
             self._take(self._watched.see(view, now), now)
         if is_sure:
+            if self._over == "arbiter" and self._was_empty and self._shown == _START.letters:
+                self._begin_next([], now)  # for the recogniser nothing may have changed
             self._was_away &= not self._is_as_told
-            self._was_empty |= not {"K", "k"} & {*letters}
+            self._was_empty |= self._has_no_kings
             self._learner.see(self._shown, self._clock)
         self._await_loss(is_sure)
         self._learn()
@@ -202,6 +220,10 @@ class Games(Uncopied):
         game. The board's position counts again from the next `see`. If moves are only deleted, or
         the board shows an earlier position, it counts once it changes."""
         game = self._under_way()
+        if self._stays:
+            replace(game, moves=[*game.moves]).replace(ply, count, moves)  # its errors
+            self._part()
+            game = self._under_way()
         was_final = not game.state.chess.can_move
         game.replace(ply, count, moves)
         self._go_on(ply, bool(moves), now)
@@ -219,8 +241,10 @@ class Games(Uncopied):
         if result not in RESULTS:
             raise BadValue(f"result must be one of {', '.join(RESULTS)}: {result!r}")
         if result != "*":
+            self._restore()
             self._end(result, "arbiter", now)
             return
+        self._part()
         game.result, self._over = result, ""
         self._go_on(len(game.moves), True, now)
         self._save()
@@ -240,6 +264,10 @@ class Games(Uncopied):
     def _shown(self) -> str:
         """The letters on the board, from White's point of view."""
         return self._watched.from_white(self._letters)
+
+    @property
+    def _has_no_kings(self) -> bool:
+        return bool(self._letters) and not {"K", "k"} & {*self._letters}
 
     @property
     def _is_as_told(self) -> bool:
@@ -340,10 +368,9 @@ class Games(Uncopied):
     # ---- What has happened
 
     def _take(self, events: list[GameEvent], now: float) -> None:
-        if self._over == "arbiter":  # the board may go on, until another position was set up
-            events = [event for event in events if isinstance(event, Begun) and (
-                event.state == State.start() or self._was_empty)]
-        self._taken = {}
+        if self._over == "arbiter":
+            events = self._after_arbiter(events, now)
+        self._is_back_now = False
         is_replaced = [type(event) for event in events] == [Back, Made]
         is_found = not any(isinstance(event, Begun | Gap) for event in events)
         for event in events:
@@ -355,17 +382,19 @@ class Games(Uncopied):
                 case Unseen(moves):
                     self._make(moves)
                 case Gap(count, state):
+                    self._part()
                     self._gaps.append((count, GameState._of(state)))
                     self._note(f"gap {count}")
                 case Back(count) if self._gaps:
                     self._gaps.pop()
                     self._find()
-                case Back(count) if self.game and count <= len(self.game.moves):
-                    self._take_back(count, is_replaced)
+                case Back(count, stays) if self.game and count <= len(self.game.moves):
+                    self._take_back(count, stays, is_replaced)
                 case Back():  # to a position before this game
                     assert self._watched.state is not None
                     return self._begin(self._watched.state)
                 case Ended(result):
+                    self._restore()
                     self._end(result, self._why, now)
                 case Lost():
                     self._is_lost = True
@@ -377,7 +406,34 @@ class Games(Uncopied):
         if self._over and self.game and not self.game.moves and self._is_as_told:
             self._begin(self.game.start)  # nobody came to the game before
 
+    def _after_arbiter(self, events: list[GameEvent], now: float) -> list[GameEvent]:
+        """Returns the events after a result by hand that count. The board may go on, until another
+        position was set up. The initial one may be that of the game, with moves taken back."""
+        for number, event in enumerate(events):
+            if isinstance(event, Begun) and (event.state == State.start() or self._was_empty):
+                return events[number:]
+        state = self._watched.state
+        if not events or state is None:
+            return []
+        moves = list[str]()
+        for event in events:
+            moves = [*moves, event.move] if isinstance(event, Made) else []
+        if state.letters == _START.letters:
+            self._begin_next([], now)
+        elif moves and (states := _played(moves)) and states[-1].letters == state.letters:
+            self._begin_next(moves, now)
+        return []
+
+    def _begin_next(self, moves: Sequence[str], now: float) -> None:
+        """Begins a game after a result by hand, with these moves."""
+        self._watched.go_on([_START, *_played(moves)], self.turned, now)
+        self._begin(_START)
+        self._make(moves)
+        self._take(self._watched.see(self._view, now), now)
+
     def _begin(self, state: GameState) -> None:
+        self._restore(self._is_left_soon)
+        self._back.clear()
         game = self.game
         if game and not game.moves and not self._over and game.start.letters == state.letters:
             game.start = state  # the first move decides whose turn it was
@@ -389,8 +445,8 @@ class Games(Uncopied):
         tags = {"Date": time.strftime("%Y.%m.%d"), **self._tags}
         self.game = PgnGame(tags, state)
         self._text = _GameText(self.game)
-        self._is_in_file = False
-        self._settled = self._fixed = 0
+        self._is_in_file = self._is_branch = False
+        self._settled = self._fixed = self._held = 0
         self._over = self._advice = ""
         self._lost, self._is_lost, self._was_empty = {}, False, False
         self._gaps.clear()
@@ -406,29 +462,84 @@ class Games(Uncopied):
             self._begin(self._gaps[-1][1])
         assert self.game is not None
         for move in moves:
+            if self._back and self._back[-1].move != move:
+                self._part()
+            is_played = self._clock is not None and self._clock.running
+            is_as_before = self._is_back_now or self._stays and not is_played
+            before = self._back.pop() if self._back else None
             self._settle(self.game.state.after(move).letters)
-            made, before = self.game.add(move), self._taken.pop(len(self.game.moves), None)
+            made = self.game.add(move)
             made.clock, made.times = self._left(self._clock, made), self._clock
-            if before is not None and before.move == move:  # only those after it are taken back
+            if before is not None and is_as_before:  # only those after it are taken back
                 made.clock, made.times = before.clock, before.times
                 self._settled = self._fixed = len(self.game.moves)
             times = [self._clock.first, self._clock.second] if self._clock else []
             times = times if self._is_white_left else times[::-1]
             self._report(" ".join([numbered(made.before, made.san), made.move, *map(str, times)]))
 
-    def _take_back(self, count: int, is_replaced: bool) -> None:
-        """Takes back the last moves. If another replaces one, the piece was still moving, and the
-        clock of the move before may have been pressed meanwhile. Otherwise that clock stays: both
-        clocks may have run since then."""
+    def _take_back(self, count: int, stays: bool, is_replaced: bool) -> None:
+        """Takes back the last moves, which may stay in the file. If another replaces one, the piece
+        was still moving, and the clock of the move before may have been pressed meanwhile.
+        Otherwise that clock stays: both clocks may have run since then."""
         assert self.game is not None
+        if not self._back:
+            self._was = self.game.result, self._over
+        if stays:
+            self._held = len(self.game.moves) + len(self._back)
+        self._is_back_now, self._back_at, self._is_left_soon = True, self._changed_at, False
         self.game.result, self._over = "*", ""
         for left in range(len(self.game.moves) - 1, len(self.game.moves) - 1 - count, -1):
-            made = self._taken[left + 1] = self.game.moves.pop()
+            made = self.game.moves.pop()
+            self._back.append(made)
             self._text.change(left)
             self._fixed = min(self._fixed, left) if is_replaced else left
             self._settled = max(self._fixed, min(self._settled, left - is_replaced))
             self._report(f"undo {numbered(made.before, made.san)} {made.move}")
         self._seen.clear()  # these positions led to the moves that were taken back
+
+    # ---- What was taken back
+
+    @property
+    def _stays(self) -> bool:
+        """Whether the file keeps the moves that were taken back."""
+        return self.game is not None and self._held > len(self.game.moves)
+
+    @property
+    def _kept(self) -> PgnGame:
+        """The game as the file keeps it."""
+        assert self.game is not None
+        if not self._stays:
+            return self.game
+        return replace(self.game, moves=[*self.game.moves, *reversed(self._back)],
+                       result=self._was[0])
+
+    def _part(self) -> None:
+        """Notes that other moves follow than those that were taken back. If the file keeps these,
+        the game ends with them, and another one goes on from here."""
+        game, count, stays = self.game, len(self._back), self._stays
+        if game is not None and stays:
+            kept, last = self._kept, game.moves[-1] if game.moves else None
+            after = f"after {numbered(last.before, last.san)}" if last else "before the first move"
+            parted = replace(game, tags={**game.tags}, moves=[replace(each) for each in game.moves],
+                             comment="")
+            game.moves, game.result, game.comment = kept.moves, kept.result, _PARTED.format(after)
+            self._back.clear()
+            self._report(f"kept {count}")
+            self.game, self._text, self._is_branch = parted, _GameText(parted), True
+            self._is_in_file, self._held = False, 0
+            if self._file is not None:
+                self._file.begin()
+        self._back.clear()
+
+    def _restore(self, is_setting_up: bool = False) -> None:
+        """Notes that nothing follows what was taken back. The game ends with it if the file keeps
+        it, or if whoever took it back went on at once: he was setting up pieces."""
+        self._back_at, self._is_left_soon = -_SOON, False
+        if self.game is not None and (self._stays or is_setting_up and self._back):
+            self.game.moves += self._back[::-1]
+            self._back.clear()
+            self.game.result, self._over = self._was
+            self._settled = self._fixed = len(self.game.moves)
 
     @property
     def _why(self) -> str:
@@ -440,12 +551,17 @@ class Games(Uncopied):
 
     def _end(self, result: str, why: str, now: float) -> None:
         assert self.game is not None
-        self.game.result, self._over, self._was_empty = result, why, False
+        self.game.result, self._over, self._was_empty = result, why, self._has_no_kings
+        self._lost, self._advice, self._is_lost, self._lost_at = {}, "", False, None
+        if why != "arbiter" and not self._gaps:
+            self.game.comment = ""
         self._final_at = now + _FINAL_WAIT if why in ("mate", "stalemate") else now
         self._report(f"result {result} {why}")
 
     def _await_loss(self, is_sure: bool) -> None:
         """Notes when to report that the game is lost."""
+        if self._over:
+            return
         wrong = self._wrong if self._is_lost and is_sure else self._lost
         wait = _SETTING_UP_WAIT if len(wrong) > _MOST_WRONG else _LOST_WAIT
         self._lost_at = None if wrong == self._lost else self._changed_at + wait
@@ -482,6 +598,8 @@ class Games(Uncopied):
     def _go_on(self, ply: int, is_new: bool, now: float) -> None:
         """Continues the game after its moves, which may have changed after `ply`."""
         assert self.game is not None
+        self._back.clear()
+        self._held = 0
         self._text.change(ply)
         self._settled = self._fixed = len(self.game.moves)
         self._seen.clear()
@@ -505,7 +623,7 @@ class Games(Uncopied):
             return
         self._is_in_file |= bool(self.game.moves) or self.game.result != "*"
         if self._is_in_file:
-            self._file.put(self._text.text())
+            self._file.put(self._kept.text() if self._stays else self._text.text())
         try:
             self._file.save()
         except OSError as refused:
@@ -522,6 +640,16 @@ class Games(Uncopied):
 def _with(old: dict[str, str], new: dict[str, str]) -> dict[str, str]:
     """Tags with new ones, of which an empty text removes one."""
     return {name: text for name, text in {**old, **new}.items() if text or name not in new}
+
+
+def _played(moves: Sequence[str]) -> list[GameState]:
+    """Returns the states of a game after each of these moves, until one is illegal."""
+    states = [_START]
+    for move in moves:
+        if not states[-1].chess.is_legal(move):
+            break
+        states.append(states[-1].after(move))
+    return states[1:]
 
 
 def _is_left(side: str) -> bool:

@@ -68,9 +68,11 @@ class Gap:
 
 @dataclass(frozen=True, slots=True)
 class Back:
-    """`count` moves are taken back: those of the last `Made`, `Unseen` or `Gap`."""
+    """`count` moves are taken back: those of the last `Made`, `Unseen` or `Gap`. If `stays`, what
+    is taken back since moves were made last stays: keep the game with it, too."""
 
     count: int
+    stays: bool
 
 
 @dataclass(frozen=True, slots=True)
@@ -108,7 +110,7 @@ def _read_event(told: GameEventStruct) -> GameEvent:
         case _c.GAME_GAP:
             return Gap(told.count, State._of(bytes(told.state)))
         case _c.GAME_BACK:
-            return Back(told.count)
+            return Back(told.count, bool(told.stays))
         case _c.GAME_ENDED:
             return Ended(_RESULTS[told.result])
         case _c.GAME_LOST:
