@@ -196,11 +196,15 @@ class CorrectedGames(collector.Collector):
 
     def take_pairings(self, round: str, asked: str | None, tags: dict[str, str],
                       boards: Players) -> None:
-        """Sets the players of a round from the file of pairings, in the same way."""
+        """Sets the players of a round from the file of pairings, in the same way. After the end of
+        a round, another one begins with it."""
+        is_next = round not in ("", self.tags.get("Round"))
         tags = {**tags, "Round": round} if round else tags
         self.tags |= tags
         self.pairings = boards
         self.name_all(tags)
+        if is_next and self.is_between:
+            self.take_round(self.row, tags)
 
     def name_all(self, tags: dict[str, str]) -> None:
         """Sets tags of all boards' games, and the players of each board whose players are new: what
