@@ -118,7 +118,7 @@ returns-clause-unread c = λ few. elim (read_or_not c.read_by_kings-reading.resu
   | inr none ↦ elim c.take.ensures.behind [
     | inl same ↦ inr (
       c.take.ensures.unread none ∙ c.look_at_kings.ensures.returned ∙ (kept c).4,
-      same ∙ c.look_at_kings.ensures.behind ∙ same_behind c,
+      same.0 ∙ c.look_at_kings.ensures.behind ∙ same_behind c,
       λ e. was_set_up c (sym (c.take.ensures.set_up none ∙ c.look_at_kings.ensures.set_up) ∙ e),
     )
     | inr (sure, last) ↦ inl (λ nowhere.
