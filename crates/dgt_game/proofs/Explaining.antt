@@ -1,6 +1,7 @@
 -- The only legal half-move that explains a picture.
 use Rattle.std.{proofs.Common.{rules, ◌≡◌, ◌∙◌, ◌<◌, ◌+◌, ℕ, List, arith, inl, inr, subst, sym}, specs.Prelude.{◌⊎◌, ◌≤◌, ⊤, Option, Some, None}}
-use Rattle.{dgt_values.specs.{declared.pieces.Piece.{Piece}, Board.{square_number}}, dgt_chess.specs.declared.{pieces.Man.{Man, TheVariants.{Pawn, Knight, Bishop, Rook, Queen, King}}, state.{Move.{Move}, State.{State}}}}
+use Rattle.dgt_values.specs.{declared.pieces.Piece.{Piece}, Board.{square_number}}
+use Rattle.{dgt_chess.specs.declared.{pieces.Man.{Man, TheVariants.{Pawn, Knight, Bishop, Rook, Queen, King}}, state.{Move.{Move}, State.{State}}}}
 use Rattle.dgt_chess.{specs.Rules.{CanGo, Legal, board}, proofs.Same.{same_move}}
 use Rattle.dgt_game.specs.{declared.unseen.Found.{Found}, Lines.{IsMove}, Results.{Explains}, Unseen.{BeforeKingsIsOnly, ExplainsBy, FoundBy, added}, Ways.{Ends}}
 use Rattle.{std.specs.Prelude.{◌↔◌, Bool, false, IsTrue}, dgt_values.specs.{declared.positions.Position.{Position}, Board.{pieces_of}}}

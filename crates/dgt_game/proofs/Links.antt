@@ -2,8 +2,8 @@
 use Rattle.std.proofs.{Common.{rules, ◌≡◌, ◌≤◌, ◌∙◌, refl, sym, ap, arith, inl, inr, ℕ, zero, suc, length, Bool, List, [], ◌∷◌, Option, Some, slice_get}, lemmas.Grind.{common_steps}}
 use Rattle.{std.{specs.Prelude.{Contains, IfSome, ◌≢◌, ◌⊎◌}, proofs.lemmas.List.{reverse-reverse}}, dgt_values.specs.declared.pieces.Piece.{Piece}, dgt_chess.specs.declared.state.State.{State}}
 use Rattle.{dgt_chess.specs.{Rules.{IsStart, board}, declared.state.Move.{Move}}, dgt_game.specs.declared.{node.{Node.{Node}, Step.{Step}, Way.{Way}, Place.{Place}}, reading.Reading.{Reading}}}
-use Rattle.dgt_game.specs.{declared.{memory.Memory.{Memory}, ways.Ways.{Ways}}, Lines.{IsLine, moves_of}, Ways.{AreWays}, Told.{Told, IsHeld, IsShown, Joins, WasShown, as_shown, told_pieces}, Memory.{By}}
-use Rattle.dgt_game.specs.Results.{EndsShown}
+use Rattle.dgt_game.specs.{declared.{memory.Memory.{Memory}, ways.Ways.{Ways}}, Lines.{IsLine, moves_of}, Ways.{AreWays}, Told.{Told, IsShown, Joins, WasShown, as_shown, told_pieces}, Memory.{By}}
+use Rattle.dgt_game.specs.{Results.{EndsShown}, Told.{IsHeld}}
 use Rattle.dgt_game.specs.Memory.{Fits, Holds, AreLast, IsRoot, IsSeen, Links, Reads, halves_of, step_at, steps, told_of}
 
 pub turned_back : (turned : Bool) (pieces shown : List Piece) → pieces ≡ as_shown turned shown

@@ -78,9 +78,8 @@ abbrev pub IsHeld : List Piece → State → Type 0
 IsHeld picture state =
     LacksMen picture state ⊎ ((square : ℕ) × LacksOne picture state square)
 
--- The board has shown the state's position, or all of it but pieces of the side to move or one
--- piece, or a result by kings and else only its pieces, or a line begins with the state in which
--- games do.
+-- The board has shown the state's position, or after one half-move all but what is held, or a
+-- result by kings and else only its pieces. Or a line begins with the state in which games do.
 unfoldable pub WasShown : List (List Piece) → Told → Type 0
 WasShown shown told =
     Contains shown (told_pieces told)

@@ -1,4 +1,5 @@
-use Rattle.{std.{proofs.Common.{rules, ◌≡◌, ap, arith, inl, inr, refl, subst, List, length}, specs.Prelude.{◌<◌, Contains, IsSome}}, dgt_values.specs.{declared.pieces.Piece.{Piece}, Board.{pieces_of}}}
+use Rattle.{std.{proofs.Common.{rules, ◌≡◌, ap, arith, inl, inr, refl, subst, List, length}, specs.Prelude.{◌<◌, Contains, IsSome}}}
+use Rattle.dgt_values.specs.{declared.pieces.Piece.{Piece}, Board.{pieces_of}}
 use Rattle.dgt_game.specs.{declared.{event.GameResult.{GameResult}, node.{Step.{Step}}}, Memory.{Holds, IsBefore, step_at, steps}, Results.{ByKings, KingsMean}, Told.{Told, as_shown}}
 use Rattle.{std.proofs.Common.{[], Some}, dgt_game.proofs.{Chains.{found_before}, Explaining.{ends_by, only_by, unexplained_by}, Hands.{ended}}}
 use Rattle.dgt_game.proofs.recogniser.Recogniser.add_unseen.Goals.{After-push}
@@ -30,8 +31,8 @@ kings : (c : After-push) (before : Step) (end : GameResult)
     → KingsMean (as_shown c.in-Some.from.step.is_turned (pieces_of c.args.view.now.shown)) end
 kings c before end at by =
     let same : before ≡ c.in-Some.from.step = search (rules, c.in-Some.ensures, at) in
-    subst (λ (s : Step). KingsMean (as_shown s.is_turned (pieces_of c.args.view.now.shown)) end) same
-    by.0
+    let picture = pieces_of c.args.view.now.shown in
+    subst (λ (s : Step). KingsMean (as_shown s.is_turned picture) end) same by.0
 
 holds : (c : After-push) (shown : List (List Piece)) (line : List Told) (before : Step)
     (end : GameResult) → c.args.self.now.memory.back ≡ 0

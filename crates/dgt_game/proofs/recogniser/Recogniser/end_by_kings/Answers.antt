@@ -1,6 +1,8 @@
-use Rattle.{std.{proofs.{Common.{◌≡◌, ◌∙◌, inl, inr, refl, subst, List, [], Option}, lemmas.Option.{MatchOption-at_some}}, specs.Prelude.{Contains, IfSome, MatchOption}}, dgt_values.specs.declared.pieces.Piece.{Piece}}
+use Rattle.{std.{proofs.{Common.{◌≡◌, ◌∙◌, inl, inr, refl, subst, List, [], Option}, lemmas.Option.{MatchOption-at_some}}, specs.Prelude.{Contains, IfSome, MatchOption}}}
+use Rattle.dgt_values.specs.declared.pieces.Piece.{Piece}
 use Rattle.{dgt_values.specs.Board.{pieces_of}, dgt_game.{specs.{declared.{event.GameResult.{GameResult}, node.Step.{Step}}, Sure.{WereSure}, Waiting.{Show}}, proofs.Planning.{fewer_by_result}}}
-use Rattle.dgt_game.{proofs.{Standing.{every_some}, recogniser.Recogniser.end_by_kings.Goals.{After-end_at-is_there}, Sure.{kings_sure}}, specs.{declared.view.View.{View}, Memory.{Holds, told_of}, Told.{Told}}}
+use Rattle.dgt_game.{proofs.{Standing.{every_some}, recogniser.Recogniser.end_by_kings.Goals.{After-end_at-is_there}, Sure.{kings_sure}}}
+use Rattle.dgt_game.specs.{declared.view.View.{View}, Memory.{Holds, told_of}, Told.{Told}}
 use Rattle.dgt_game.proofs.recogniser.Recogniser.end_by_kings.Goals as goal
 
 pub returns-then-is_there-clause-right : goal.returns-then-is_there-clause-right
@@ -41,7 +43,10 @@ returns-then-is_there-clause-stands c = λ rooted told sure stands.
     (more.near found.near) in (
       every_some _ _ (λ view. refl),
       λ told. back.1,
-      inr (end.keeps.6 ∙ more.keeps.6 ∙ sure, inr (refl, refl, back.1, (c.in-Some-kings_result.result, refl))),
+      inr (
+        end.keeps.6 ∙ more.keeps.6 ∙ sure,
+        inr (refl, refl, back.1, (c.in-Some-kings_result.result, refl)),
+      ),
       inl back.0,
     )
 
