@@ -1,7 +1,8 @@
 use Rattle.{std.{proofs.Common.{◌≡◌, ◌∙◌, ◌<◌, inl, inr, Bool, [], length, ap, false, refl, subst, sym, true}, specs.Prelude.{◌≢◌, Contains}}, dgt_values.specs.Board.{pieces_of}}
 use Rattle.dgt_game.specs.{declared.{memory.Memory.{Memory}, node.Place.{Place}}, Memory.{Holds, Reads}, Reading.{IsRead}}
 use Rattle.dgt_game.proofs.{Known.{memory_of, view_of}, Pictures.{SomeState, SomeWithout, king_left, king_seen}}
-use Rattle.dgt_game.proofs.{Pictures.{at_line, few_same, live_same, over_of, since_of, known_same, read_or_not, returned_of, seen_state, state_of}, recogniser.Recogniser.look.Goals.{then-has_white+then-has_black, After-take}}
+use Rattle.dgt_game.proofs.Pictures.{at_line, few_same, live_same, over_of, since_of, known_same, read_or_not, returned_of, seen_state, state_of}
+use Rattle.dgt_game.proofs.recogniser.Recogniser.look.Goals.{then-has_white+then-has_black, After-take}
 use Rattle.{std.proofs.Common.{rules, arith}, dgt_game.{specs.declared.recogniser.Recogniser.{Recogniser}, proofs.Waiting.{not_found}}}
 use Rattle.{dgt_game.proofs.{recogniser.Recogniser.look.Goals.{else-has_white}, Sure.{sure_of}}, dgt_chess.specs.declared.pieces.Colour.{Colour}}
 use Rattle.dgt_game.proofs.recogniser.Recogniser.look.Goals as goal
@@ -117,7 +118,7 @@ returns-clause-unread c = λ few. elim (read_or_not c.read_by_kings-reading.resu
   | inr none ↦ elim c.take.ensures.behind [
     | inl same ↦ inr (
       c.take.ensures.unread none ∙ c.look_at_kings.ensures.returned ∙ (kept c).4,
-      same ∙ c.look_at_kings.ensures.behind ∙ same_behind c,
+      same.0 ∙ c.look_at_kings.ensures.behind ∙ same_behind c,
       λ e. was_set_up c (sym (c.take.ensures.set_up none ∙ c.look_at_kings.ensures.set_up) ∙ e),
     )
     | inr (sure, last) ↦ inl (λ nowhere.
