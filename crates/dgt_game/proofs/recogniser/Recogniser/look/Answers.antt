@@ -1,9 +1,10 @@
 use Rattle.{std.{proofs.Common.{◌≡◌, ◌∙◌, ◌<◌, inl, inr, Bool, [], length, ap, false, refl, subst, sym, true}, specs.Prelude.{◌≢◌, Contains}}, dgt_values.specs.Board.{pieces_of}}
 use Rattle.dgt_game.specs.{declared.{memory.Memory.{Memory}, node.Place.{Place}}, Memory.{Holds, Reads}, Reading.{IsRead}}
 use Rattle.dgt_game.proofs.{Known.{memory_of, view_of}, Pictures.{SomeState, SomeWithout, king_left, king_seen}}
-use Rattle.dgt_game.proofs.{Pictures.{at_line, few_same, live_same, over_of, since_of, known_same, read_or_not, returned_of, seen_state, state_of}, recogniser.Recogniser.look.Goals.{then-has_white+then-has_black, After-take}}
+use Rattle.dgt_game.proofs.Pictures.{at_line, few_same, live_same, over_of, since_of, known_same, read_or_not, returned_of, seen_state, state_of}
+use Rattle.dgt_game.proofs.recogniser.Recogniser.look.Goals.{then-has_white+then-has_black, After-take}
 use Rattle.{std.{proofs.{Common.{rules, arith, ◌⊎◌}, lemmas.Bool.{false≢true}}}, dgt_game.{specs.Planning.{HasKing}, proofs.Planning.{either_side}}}
-use Rattle.{std.proofs.Common.{rules}, dgt_game.{specs.declared.recogniser.Recogniser.{Recogniser}, proofs.Waiting.{not_found}}}
+use Rattle.dgt_game.{specs.declared.recogniser.Recogniser.{Recogniser}, proofs.Waiting.{not_found}}
 use Rattle.{dgt_game.proofs.{recogniser.Recogniser.look.Goals.{else-has_white}, Sure.{sure_of}}, dgt_chess.specs.declared.pieces.Colour.{Colour}}
 use Rattle.dgt_game.proofs.recogniser.Recogniser.look.Goals as goal
 
