@@ -1,6 +1,9 @@
 -- How many squares show other pieces.
-use Rattle.std.proofs.{Common.{rules, arith, ◌≡◌, ◌≢◌, ◌∙◌, ◌%◌, ◌^◌, ◌<◌, ◌≤◌, ◌⊎◌, inl, inr, sym, ap, refl, subst, ℕ, zero, suc, Bool, true, false, not, eqb, cond, List, map, length, get_or, eq-eqb, ne_eqb}, lemmas.Nat.{bit_set_by_shift}}
-use Rattle.std.proofs.lemmas.{Option.{slice_get-get_or}, Simd.{bit_mask_l, mask_l-lt, ones-mask_l}, Nat.Bits.{bit_at-lt, same_from_bits_below, shr_and_one}, List.{length-map}, Slice.Zip.{get_or-zip, length-zip}}
+use Rattle.std.proofs.Common.{rules, arith, ◌≡◌, ◌≢◌, ◌∙◌, ◌%◌, ◌^◌, ◌<◌, ◌≤◌, ◌⊎◌, inl, inr, sym, ap, refl, subst, ℕ}
+use Rattle.std.proofs.Common.{zero, suc, Bool, true, false, not, eqb, cond, List, map, length, get_or, eq-eqb, ne_eqb}
+use Rattle.std.proofs.lemmas.Nat.{bit_set_by_shift}
+use Rattle.std.proofs.lemmas.{Option.{slice_get-get_or}, Simd.{bit_mask_l, mask_l-lt, ones-mask_l}}
+use Rattle.std.proofs.lemmas.{Nat.Bits.{bit_at-lt, same_from_bits_below, shr_and_one}, List.{length-map}, Slice.Zip.{get_or-zip, length-zip}}
 use Rattle.std.{specs.{Int.{bit_at}, Prelude.{◌↔◌, IsBitSet, Option, Some, count_ones, min, slice_get, zip}}, proofs.Math.ListN.{get_or-map}}
 use Rattle.dgt_values.{specs.{Board.{DifferingSquares, piece_code}, declared.pieces.Piece.{Piece}}, proofs.PieceCodes.{same_code}}
 use Rattle.dgt_game.specs.Planning.{differing}

@@ -1,8 +1,13 @@
 -- What a file of games keeps.
-use Rattle.std.{proofs.{Common.{rules, arith, ◌≡◌, ◌≢◌, ◌∙◌, ◌≤◌, ◌<◌, ◌⊎◌, inl, inr, ap, refl, sym, ℕ, zero, suc, Bool, true, false, length, List, [], ◌∷◌, ◌++◌, Some, None}, lemmas.{Bool.{lt-ltb, le-ltb}, List.{append_assoc, take-append-drop}}, Math.Seq.{drop-append_seam}}, specs.Prelude.{Contains, drop, take, ◌-◌, ◌+◌, min, nat_lt, if◌then◌else◌}}
-use Rattle.dgt_game.specs.{declared.{event.Event.{Event}, node.Node.{Node}, recogniser.{Over.{Over}, Recogniser.{Recogniser}}, staying.{Staying.{Staying}, TheConstants.{NONE_STAYS}}}, Told.{Leads, Told}, Staying.{Notes, SaysStays, StaysWhole, after_held, after_loose, after_step, back_by, staying_after}}
+use Rattle.std.proofs.Common.{rules, arith, ◌≡◌, ◌≢◌, ◌∙◌, ◌≤◌, ◌<◌, ◌⊎◌, inl, inr, ap, refl, sym, ℕ, zero, suc, Bool, true, false, length, List, [], ◌∷◌, ◌++◌, Some, None}
+use Rattle.std.proofs.{lemmas.{Bool.{lt-ltb, le-ltb}, List.{append_assoc, take-append-drop}}, Math.Seq.{drop-append_seam}}
+use Rattle.std.specs.Prelude.{Contains, drop, take, ◌-◌, ◌+◌, min, nat_lt, if◌then◌else◌}
+use Rattle.dgt_game.specs.{declared.{event.Event.{Event}, node.Node.{Node}, recogniser.{Over.{Over}, Recogniser.{Recogniser}}, staying.{Staying.{Staying}, TheConstants.{NONE_STAYS}}}}
+use Rattle.dgt_game.specs.{Told.{Leads, Told}, Staying.{Notes, SaysStays, StaysWhole, after_held, after_loose, after_step, back_by, staying_after}}
 use Rattle.dgt_game.specs.Waiting.{has_result}
-use Rattle.dgt_game.specs.{Recogniser.{new_recogniser}, Runs.{Call, Runs, events_of}, Filed.{AllIsFile, AskedStays, Asks, AsksAreLegal, Begins, CorrectionsKeepNothing, EndedIsKept, IsFile, NoLineIsDeleted, OneBegins, Steps, WholeIsKept, lines_after}}
+use Rattle.dgt_game.specs.{Recogniser.{new_recogniser}, Runs.{Call, Runs, events_of}}
+use Rattle.dgt_game.specs.Filed.{AllIsFile, AskedStays, Asks, AsksAreLegal, Begins, CorrectionsKeepNothing, EndedIsKept}
+use Rattle.dgt_game.specs.Filed.{IsFile, NoLineIsDeleted, OneBegins, Steps, StepsAreMade, WholeIsKept, lines_after}
 
 -- what is counted is right: steps that aren't a line's own begin one that is kept
 record IsCounted (line : List Told) (lines : List (List Told)) (self : Staying) : Type 0 where
@@ -466,3 +471,13 @@ all_is_file line lines = (
   (line, (zero, omega arith, refl), ([], refl)),
   λ kept (k, l, e). (kept, (suc k, omega (arith, l), e), ([], refl)),
 )
+
+pub steps_are_made : StepsAreMade
+steps_are_made (Event.Made one) = (λ h. inl (one, refl), λ h. tt)
+steps_are_made (Event.Unseen moves) = (λ h. inr (inl (moves, refl)), λ h. tt)
+steps_are_made (Event.Gap state count) = (λ h. inr (inr (state, count, refl)), λ h. tt)
+steps_are_made (Event.Begun state is_turned) = (λ h. absurd h, search rules)
+steps_are_made (Event.Back count stays) = (λ h. absurd h, search rules)
+steps_are_made (Event.Ended result) = (λ h. absurd h, search rules)
+steps_are_made (Event.Lost squares) = (λ h. absurd h, search rules)
+steps_are_made Event.Found = (λ h. absurd h, search rules)

@@ -4,7 +4,8 @@ use Rattle.std.{specs.Prelude.{[], slice_get}, proofs.{lemmas.{Option.{slice_get
 use Rattle.{dgt_values.specs.{declared.pieces.Piece.{Piece}, Board.{pieces_of}}, dgt_chess.specs.declared.{state.{Move.{Move}, State.{State}}, pieces.{Colour.{Colour}, Man.{Man}}}}
 use Rattle.{dgt_chess.specs.{Attacks.{piece_at, piece_of}, Possible.{HasKings, HasOneKing}, Rules.{board}}, dgt_game.specs.declared.{memory.Memory.{Memory}, node.{Node.{Node}, Place.{Place}}}}
 use Rattle.dgt_game.specs.{declared.{node.{Returned.{Returned}, Step.{Step}}, reading.Reading.{Reading}, recogniser.{Over.{Over}, Recogniser.{Recogniser}}, view.View.{View}}, Lines.{LeadsTo, NoLine}}
-use Rattle.dgt_game.specs.{Lines.{IsLine}, Told.{as_shown}, Memory.{steps}, Reading.{HasLine, HasLineFrom, IsExplained, IsLive, IsNear, IsRepeated, RepeatsInPlace, RepetitionIsRead, TakesFewBack, ReadsView, ShowsAt, SomeLine, EarlierAreKnown}}
+use Rattle.dgt_game.specs.{Lines.{IsLine}, Told.{as_shown}, Memory.{steps}}
+use Rattle.dgt_game.specs.Reading.{HasLine, HasLineFrom, IsExplained, IsLive, IsNear, IsRepeated, RepeatsInPlace, RepetitionIsRead, TakesFewBack, ReadsView, ShowsAt, SomeLine, EarlierAreKnown}
 use Rattle.dgt_game.{specs.{Reading.{ElseStartIsKnown, FollowsSeen, IsKnown, IsRead, MovesAreKnown, ShowsEarlier, StartIsKnown, TwoAreKnown}, Waiting.{last_of}}, proofs.Chains.{get_step, same_some}}
 use Rattle.dgt_game.proofs.Links.{turned_back}
 use Rattle.std.proofs.Common.{subst}

@@ -9,7 +9,8 @@ use Rattle.dgt_chess.specs.{declared.{pieces.Colour.{Colour}, possible.{Impossib
 use Rattle.{dgt_chess.specs.{Possible.{HasNoStray, HasPassed, HasRights, IsPossible, Refuses}, Rules.{board}}, dgt_game.specs.declared.event.{Event.{Event}, GameResult.{GameResult}}}
 use Rattle.dgt_game.specs.declared.{memory.Memory.{Memory}, node.{Node.{Node}, Origin.{Origin}, Place.{Place}, Step.{Step}}, recogniser.{Over.{Over}, Recogniser.{Recogniser}, Search.{Search}}}
 use Rattle.dgt_game.specs.{declared.{resting.Next.{Next}, view.View.{View}}, Told.{as_shown}, Memory.{steps}, Waiting.{last_of}, Planning.{HasNothing, IsPlanned, IsRefused, Lacks, LacksSome}}
-use Rattle.dgt_game.specs.Planning.{ElseMayBegin, FarIsCounted, InTurnIsNotRefused, IsFar, IsFarFrom, LiftedIsGone, MovingBothIsSettingUp, SetsUp, differing, LostIsReported, NothingFits, OneFits, PossibleIsHopeful}
+use Rattle.dgt_game.specs.Planning.{ElseMayBegin, FarIsCounted, InTurnIsNotRefused, IsFar, IsFarFrom, LiftedIsGone}
+use Rattle.dgt_game.specs.Planning.{MovingBothIsSettingUp, SetsUp, differing, LostIsReported, NothingFits, OneFits, PossibleIsHopeful}
 use Rattle.dgt_game.specs.Planning.{Plans, RestsAt, RestsBy, StaysPlaced, WhyHopeless, of_kings, of_place, of_search, todo}
 use Rattle.dgt_game.specs.Results.{StandsAs}
 use Rattle.dgt_game.proofs.{Chains.{get_step}, Standing.{some_of}, Waiting.{three_bad}}

@@ -1,6 +1,7 @@
 -- What results and lost lines mean.
 use Rattle.std.{proofs.Common.{rules, ◌≡◌, ◌∙◌, ◌++◌, sym, arith, ℕ, Bool, true, false, List, [], ◌∷◌, Option, Some, None, refl, zero, suc}, specs.Prelude.{Contains}}
-use Rattle.dgt_game.specs.{declared.{event.{Event.{Event}, GameResult.{GameResult}}, recogniser.Recogniser.{Recogniser}}, Waiting.{CallsFollowOn, FollowOn, IsRight, ResultIsFound, RightIfAway, RunsInTurn}}
+use Rattle.dgt_game.specs.{declared.{event.{Event.{Event}, GameResult.{GameResult}}, recogniser.Recogniser.{Recogniser}}}
+use Rattle.dgt_game.specs.Waiting.{CallsFollowOn, FollowOn, IsRight, ResultIsFound, RightIfAway, RunsInTurn}
 use Rattle.dgt_game.specs.{Waiting.{events_in, has_result, is_lost}, Results.{AreLost, HasResults, LostInTurn, NotFound, NotLost, OneByKings, OneByRules, OneOther, OneResult, Stay}}
 use Rattle.dgt_chess.specs.declared.state.State.{State}
 use Rattle.{std.specs.Prelude.{◌≢◌, ◌⊎◌}, dgt_chess.specs.{Attacks.{piece_at}, Rules.{board}}, dgt_game.specs.Results.{FitsAt, IsCentre}}

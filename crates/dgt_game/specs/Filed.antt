@@ -1,6 +1,7 @@
 -- What a file of games keeps, if it obeys the events.
 use Rattle.std.specs.Prelude.{◌≡◌, ◌≢◌, ◌↔◌, ◌⊎◌, ℕ, ⊤, Bool, true, false, List, [], ◌∷◌, ◌++◌, Some, Contains, drop}
-use Rattle.dgt_game.specs.declared.event.Event.{Event}
+use Rattle.dgt_chess.specs.declared.state.{Move.{Move}, State.{State}}
+use Rattle.dgt_game.specs.declared.event.{Event.{Event}, Moves.{Moves}}
 use Rattle.dgt_game.specs.declared.recogniser.Recogniser.{Recogniser}
 use Rattle.dgt_game.specs.Told.{IsLegalTold, Leads, Told}
 use Rattle.dgt_game.specs.Recogniser.{new_recogniser}
@@ -111,3 +112,11 @@ AllIsFile = (line : List Told) (lines : List (List Told)) → IsFile (line ∷ l
 abbrev pub OneBegins : Type 0
 OneBegins =
     (whole line : List Told) → Begins (whole ∷ []) line ↔ ((k : ℕ) × (line ≡ drop k whole))
+
+-- A step is a half-move, several that weren't shown, or a gap.
+abbrev pub StepsAreMade : Type 0
+StepsAreMade =
+    (event : Event)
+    → IsStep event ↔ (((one : Move) × (event ≡ Event.Made one))
+    ⊎ ((moves : Moves) × (event ≡ Event.Unseen moves))
+    ⊎ ((state : State) × ((count : ℕ) × (event ≡ Event.Gap state count))))

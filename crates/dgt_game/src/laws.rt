@@ -5,7 +5,7 @@ ghost use Rattle.dgt_values.specs.declared.pieces.Piece.{Piece};
 ghost use Rattle.dgt_chess.specs.declared.state.State.{State};
 ghost use Rattle.dgt_game.specs.declared.event.Event.{Event};
 ghost use Rattle.dgt_game.specs.declared.recogniser.Recogniser.{Recogniser};
-ghost use Rattle.dgt_game.specs.Filed.{AllIsFile, AskedStays, AsksAreLegal, CorrectionsKeepNothing, EndedIsKept, NoLineIsDeleted, OneBegins, WholeIsKept};
+ghost use Rattle.dgt_game.specs.Filed.{AllIsFile, AskedStays, AsksAreLegal, CorrectionsKeepNothing, EndedIsKept, NoLineIsDeleted, OneBegins, StepsAreMade, WholeIsKept};
 ghost use Rattle.dgt_game.specs.Finding.{IsFound, MovedIsSearched, SearchIsDue, WhatFollowsIsFound};
 ghost use Rattle.dgt_game.specs.Laws.{BackIsCounted, EndIsShown, HeldMayLack, JoinedIsOne, LegalIsJoined, NoneAndOne, OneIsGone, OneIsShown, OneLine, OthersAreHeld, SeveralAreShown, ShownIsHeld, StartIsShown, UnseenIsOnly};
 ghost use Rattle.dgt_game.specs.Planning.{ElseMayBegin, FarIsCounted, InTurnIsNotRefused, IsLostOr, IsPlanned, LiftedIsGone, LostIsReported, MovingBothIsSettingUp, NothingFits, OneFits, PossibleIsHopeful, WhyHopeless};
@@ -90,6 +90,7 @@ pub fn no_line_is_deleted()
     ensures legal { AsksAreLegal }
     ensures all { AllIsFile }
     ensures begins { OneBegins }
+    ensures steps { StepsAreMade }
 {}
 
 /// Results, and lines that are lost.

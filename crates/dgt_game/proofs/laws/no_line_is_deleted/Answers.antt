@@ -1,4 +1,4 @@
-use Rattle.dgt_game.proofs.Filing.{all_is_file, asked_stays, asks_are_legal, corrections_keep_nothing, ended_is_kept, no_line_is_deleted, one_begins, whole_is_kept}
+use Rattle.dgt_game.proofs.Filing.{all_is_file, asked_stays, asks_are_legal, corrections_keep_nothing, ended_is_kept, no_line_is_deleted, one_begins, steps_are_made, whole_is_kept}
 use Rattle.dgt_game.proofs.laws.no_line_is_deleted.Goals as goal
 
 pub returns-clause-stays : goal.returns-clause-stays
@@ -24,3 +24,6 @@ returns-clause-ended c = ended_is_kept
 
 pub returns-clause-begins : goal.returns-clause-begins
 returns-clause-begins c = one_begins
+
+pub returns-clause-steps : goal.returns-clause-steps
+returns-clause-steps c = steps_are_made

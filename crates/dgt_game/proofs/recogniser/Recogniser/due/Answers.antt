@@ -1,6 +1,7 @@
 use Rattle.{std.{proofs.Common.{rules, true, ◌≡◌, ◌<◌, ap, inr, sym, refl, arith, None, Some, ◌∙◌}, specs.Prelude.{IfSome}}, dgt_game.specs.declared.recogniser.Recogniser.{Recogniser}}
 use Rattle.dgt_game.{specs.{Planning.{IsPlanned, todo}, Timing.{Due, HasTask, next_time}}, proofs.Planning.{hopeless_stays, nothing_left, planned_quiet, planned_then, plans_with, todo_most}}
-use Rattle.dgt_game.proofs.{Finding.{shown_then}, Timing.{acts_with, follows_then, idle_in_doubt, idle_stays, marks_of, no_time, one_more, quiet_now, told_now}, recogniser.Recogniser.due.Goals.{then-done-lt2}}
+use Rattle.dgt_game.proofs.{Finding.{shown_then}, Timing.{acts_with, follows_then, idle_in_doubt, idle_stays, marks_of, no_time, one_more, quiet_now, told_now}}
+use Rattle.dgt_game.proofs.recogniser.Recogniser.due.Goals.{then-done-lt2}
 use Rattle.dgt_game.proofs.recogniser.Recogniser.due.Goals.{else-done-lt2}
 use Rattle.dgt_game.proofs.recogniser.Recogniser.due.Goals as goal
 

@@ -1,5 +1,6 @@
 use Rattle.std.{proofs.{Common.{rules, ◌≡◌, ◌∙◌, Some, false, inl, inr, refl, ap, sym}, lemmas.Option.{MatchOption-at_some, none-some}}, specs.Prelude.{⊤}}
-use Rattle.dgt_game.specs.{declared.{event.GameResult.{GameResult}, node.Step.{Step}, recogniser.{Lost.{Lost}, Over.{Over}}}, Waiting.{EndsBy, coming, has_notice, has_result, stays_lost}, Standing.{IsMeant}}
+use Rattle.dgt_game.specs.{declared.{event.GameResult.{GameResult}, node.Step.{Step}, recogniser.{Lost.{Lost}, Over.{Over}}}}
+use Rattle.dgt_game.specs.{Waiting.{EndsBy, coming, has_notice, has_result, stays_lost}, Standing.{IsMeant}}
 use Rattle.dgt_game.proofs.{Finding.{found_later}, Standing.{back_moved, meant_moved, there_then}, Waiting.{ended_right, found_before, last_comes, right_of_line, silent}}
 use Rattle.dgt_game.proofs.recogniser.Recogniser.next_event.Goals as goal
 

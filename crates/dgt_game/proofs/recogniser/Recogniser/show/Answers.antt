@@ -1,4 +1,5 @@
-use Rattle.dgt_game.{proofs.{Chains.{same_some}, Known.{memory_of}, Pictures.{explains, repeats}, Planning.{sets_up_same}}, specs.{declared.{memory.Memory.{Memory}, view.View.{View}}, Reading.{FollowsSeen}}}
+use Rattle.dgt_game.{proofs.{Chains.{same_some}, Known.{memory_of}, Pictures.{explains, repeats}, Planning.{sets_up_same}}}
+use Rattle.dgt_game.{specs.{declared.{memory.Memory.{Memory}, view.View.{View}}, Reading.{FollowsSeen}}}
 use Rattle.{dgt_game.proofs.recogniser.Recogniser.show.Goals.{After-look, in-Some-Some, in_default, in_default-2, then-not-is_same_picture, else-not-is_same_picture}, std.proofs.Common.{◌≡◌, ◌∙◌}}
 use Rattle.dgt_game.specs.{Planning.{HasKing}, declared.recogniser.{Recogniser.{Recogniser}, Search.{Search}}}
 use Rattle.dgt_chess.specs.declared.pieces.Colour.{Colour}
