@@ -46,8 +46,8 @@ differing_counted a b bits a_long b_long small squares =
     let lanes = map differ (zip a b) in
     let both : length (zip a b) ≡ 64 = omega (arith, length-zip a b) in
     let long : length lanes ≡ 64 = search (rules, length-map, both) in
-    let less : mask_l lanes < 2 ^ 64 = subst (λ (n : ℕ). mask_l lanes < 2 ^ n) long (mask_l-lt lanes)
-    in
+    let less : mask_l lanes < 2 ^ 64 =
+    subst (λ (n : ℕ). mask_l lanes < 2 ^ n) long (mask_l-lt lanes) in
     let same : bits ≡ mask_l lanes = same_from_bits_below 64 bits (mask_l lanes) small less
     (λ n within. let shift = bit_set_by_shift bits n in
     let here = squares n within in

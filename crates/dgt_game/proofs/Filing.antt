@@ -216,8 +216,10 @@ back_loose told line lines old loose count false h is = (
   λ kept some. loose_stays told line kept lines loose old is,
 )
 back_loose told line lines old loose count true h is = (
-  more_counted line lines (told ∷ line) (after_loose old) (loose_counted told line lines loose old is h),
-  λ kept some stays. more_stays (old.loose - 1) line kept lines (told ∷ line) (loose_stays told line kept lines loose old is stays),
+  more_counted line lines (told ∷ line) (after_loose old)
+      (loose_counted told line lines loose old is h),
+  λ kept some stays. more_stays (old.loose - 1) line kept lines (told ∷ line)
+      (loose_stays told line kept lines loose old is stays),
 )
 
 back_held : (told : Told) (line : List Told) (lines : List (List Told)) (old : Staying)
@@ -336,8 +338,9 @@ no_line_is_deleted early later self ended last before line new lines now file fi
           at_first first was).0 in
           let stays : Stays self.staying.loose (last ∷ before ∷ line) lines line =
           inr (last ∷ before ∷ [], refl, omega (arith, counted.few)) in
-          in_file file ended.staying.loose new line now h ((run_goes later (last ∷ before ∷ line) new
-          lines now self ended counted runs asks).1 line some stays)
+          in_file file ended.staying.loose new line now h
+          ((run_goes later (last ∷ before ∷ line) new lines now self ended counted runs asks).1
+          line some stays)
     ]
 
 pub whole_is_kept : WholeIsKept
@@ -387,7 +390,11 @@ one_begins whole line = (
     sym (drop-append_seam more line) ∙ ap (λ (l : List Told). drop (length more) l)
         (sym e ∙ only_first whole one is),
   ),
-  λ (k, e). (whole, (zero, omega arith, refl), (take k whole, rw e (sym (take-append-drop k whole)))),
+  λ (k, e). (
+    whole,
+    (zero, omega arith, refl),
+    (take k whole, rw e (sym (take-append-drop k whole))),
+  ),
 )
 
 -- a step that doesn't stay is taken back

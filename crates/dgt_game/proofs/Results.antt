@@ -170,7 +170,8 @@ not_lost (Event.Ended result ∷ events) none = not_lost events (λ n. rest_not 
 not_lost (Event.Lost squares ∷ events) none = absurd (none squares (first_has _ _))
 not_lost (Event.Found ∷ events) none = not_lost events (λ n. rest_not _ _ _ (none n))
 
-pub stays : (events : List Event) → ((count : ℕ) (stays : Bool) → ¬ (Contains events (Event.Back count stays)))
+pub stays : (events : List Event)
+    → ((count : ℕ) (stays : Bool) → ¬ (Contains events (Event.Back count stays)))
     → ((state : State) (is_turned : Bool) → ¬ (Contains events (Event.Begun state is_turned)))
     → Stay events
 stays [] back begun = tt

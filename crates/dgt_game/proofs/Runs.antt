@@ -42,7 +42,8 @@ over_calls : (calls : List Call) (shown sure : List (List Piece)) (line : List T
     (old ended : Recogniser) → IsSound shown sure line old → Runs old calls ended
     → Leads_on shown sure line calls ended
 over_calls [] shown sure line old ended h runs = (line, refl, rw runs h)
-over_calls (Call.See sight ∷ calls) shown sure line old ended h (next, (sees, sound, seen, same), runs) =
+over_calls (Call.See sight ∷ calls) shown sure line old ended h
+    (next, (sees, sound, seen, same), runs) =
     let after = sound shown line h.known h.planned h.stands in
     over_calls calls (shown_after sight shown) (sure_after sight sure) line next ended (record {
       known = sees shown line h.known;

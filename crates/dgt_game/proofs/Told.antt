@@ -63,20 +63,22 @@ takes_back shown (told ∷ line) first [] (suc k) stays some within is_kept is_s
     absurd (elim within [ inl e ↦ omega arith | inr l ↦ omega arith ])
 takes_back shown (told ∷ []) first (second ∷ kept) (suc k) stays some within is_kept is_shown =
     absurd is_kept.0.1
-takes_back shown (told ∷ before ∷ line) first (second ∷ kept) (suc k) stays some within is_kept is_shown
-    = search rules
+takes_back shown (told ∷ before ∷ line) first (second ∷ kept) (suc k) stays some within is_kept
+    is_shown = search rules
 
 pub taken_back : (shown : List (List Piece)) (line : List Told) (nodes new : List Node) (back
-    halves : ℕ) (stays : Bool) → ((first : Node) (rest : List Node) → nodes ≡ first ∷ rest → new ≡ rest)
+    halves : ℕ) (stays : Bool)
+    → ((first : Node) (rest : List Node) → nodes ≡ first ∷ rest → new ≡ rest)
     → ((first : Node) (rest : List Node) → nodes ≡ first ∷ rest
     → halves ≡ halves_of first.step.way) → back ≢ 0 → (back ≡ 0) ⊎ (back < length (steps nodes))
     → IsKept (steps nodes) line → IsShown shown line → (told : List Told)
     × Leads line (Event.Back halves stays) told × IsShown shown told × IsKept (steps new) told
     × ((back - 1 ≡ 0) ⊎ (back - 1 < length (steps new)))
     × (slice_get (steps nodes) back ≡ slice_get (steps new) (back - 1))
-taken_back shown line [] new back halves stays drops counts some within is_kept is_shown = absurd (elim
-    within [ inl e ↦ some e | inr l ↦ omega arith ])
-taken_back shown line (first ∷ rest) new back halves stays drops counts some within is_kept is_shown =
+taken_back shown line [] new back halves stays drops counts some within is_kept is_shown =
+    absurd (elim within [ inl e ↦ some e | inr l ↦ omega arith ])
+taken_back shown line (first ∷ rest) new back halves stays drops counts some within is_kept
+    is_shown =
     let e : new ≡ rest = drops first rest refl in
     let n : halves ≡ halves_of first.step.way = counts first rest refl in
     rw e (rw n (takes_back shown line first rest back stays some within is_kept is_shown))

@@ -181,8 +181,8 @@ pub almost_none : (fits : ℕ → Type 0) (at : ℕ) (one : Option ℕ) (other :
     → ¬ ((a : ℕ) × (b : ℕ) × ((k : ℕ) → k < 64 → k ≢ a → k ≢ b → fits k))
 almost_none fits at None other within bad (none, h) = absurd (let wrong : ⊥ = cc in wrong)
 almost_none fits at (Some one) other within bad (less, more, worse, worst, h) = λ (a, b, all).
-    bad (three_bad fits a b one other at all (omega (arith, less)) (omega (arith, less, more)) within
-    (λ e. let l = less in let m = more in omega (arith, m, e)) (λ e. omega (arith, less, e))
+    bad (three_bad fits a b one other at all (omega (arith, less)) (omega (arith, less, more))
+    within (λ e. let l = less in let m = more in omega (arith, m, e)) (λ e. omega (arith, less, e))
     (λ e. omega (arith, less, more, e)) worse worst)
 
 -- what was found of a piece on the squares so far

@@ -112,8 +112,9 @@ search_wait true = 320
 search_wait false = 1000
 
 -- How long a position that nothing leads to rests before a line begins with it: a second if there
--- is no line yet. Else it is five if pieces were set up or something wasn't seen, or a minute. After
--- a result, one begins only with a set-up or, if something wasn't seen, far from the last state.
+-- is no line yet. Else it is five if pieces were set up or something wasn't seen, or a minute.
+-- After a result, one begins only with a set-up or, if something wasn't seen, far from the last
+-- state.
 abbrev pub BeginsAfter : Recogniser → ℕ → Type 0
 BeginsAfter self wait =
     (self.memory.line.items ≡ [] → wait ≡ 1000)
@@ -259,8 +260,8 @@ MayBegin self =
 abbrev pub ElseMayBegin : Type 0
 ElseMayBegin = (self : Recogniser) → MayNotBegin self ↔ (¬ (MayBegin self))
 
--- What counts as setting pieces up: both kings are off, and the line has no result, or more than two
--- squares differ from its last state, besides kings and the centre.
+-- What counts as setting pieces up: both kings are off, and the line has no result, or more than
+-- two squares differ from its last state, besides kings and the centre.
 abbrev pub SetsUp : Recogniser → View → Type 0
 SetsUp self view =
     ((colour : Colour) → ¬ (HasKing (pieces_of view.shown) colour))

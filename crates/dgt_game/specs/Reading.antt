@@ -133,8 +133,8 @@ IsReplaced self picture =
     ((k : ℕ) × (1 ≤ k) × (k ≤ 4) × HasLine 1 self (Place.Line k) picture)
     ⊎ ((k : ℕ) × (1 ≤ k) × (k ≤ 2) × HasLine 2 self (Place.Line k) picture)
 
--- The picture is that of a state two half-moves or more before the line's last one, and what another
--- half-move in place of the last one leads to.
+-- The picture is that of a state two half-moves or more before the line's last one, and what
+-- another half-move in place of the last one leads to.
 abbrev pub IsRepeated : Memory → View → Type 0
 IsRepeated self view =
     ((k : ℕ) × (2 ≤ k) × ShowsAt self view (Place.Line k))

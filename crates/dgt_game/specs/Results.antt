@@ -77,6 +77,7 @@ Explains picture pieces = (square : ℕ) → square < 64 → ExplainsAt picture 
 abbrev pub EndsShown : List Piece → State → Type 0
 EndsShown picture state =
     (result : GameResult) × KingsMean picture result × Explains picture (board state)
+
 -- Kings and the centre don't count: elsewhere but on two squares, the picture shows these pieces.
 abbrev pub IsAlmost : List Piece → List Piece → Type 0
 IsAlmost picture pieces =

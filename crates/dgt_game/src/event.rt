@@ -78,8 +78,8 @@ pub enum Event {
     /// As many half-moves, of which only the position after the last was shown. Some legal line of
     /// as many leads to this state, but it isn't known which was made.
     Gap(State, u8),
-    /// As many half-moves are taken back: those of the last `Made`, `Unseen` or `Gap`. If the second
-    /// is true, what is taken back since the last of these stays: keep the line with it, too.
+    /// As many half-moves are taken back: those of the last `Made`, `Unseen` or `Gap`. If the
+    /// second is true, what is taken back since the last of these stays: keep the line with it.
     Back(u8, bool),
     /// The game has ended.
     Ended(GameResult),
