@@ -141,7 +141,7 @@ IsRepeated self view =
     × ¬ (ShowsAt self view (Place.Line 1))
     × HasLine 1 self (Place.Line 1) (pieces_of view.shown)
 
--- one of so many last half-moves was faster than hands
+-- one of the last `count` half-moves was faster than hands
 abbrev pub WasQuick : Memory → ℕ → Type 0
 WasQuick self count =
     (k : ℕ) × (k < count) × MatchOption (slice_get self.line.items k) ⊥ (λ node.

@@ -158,8 +158,8 @@ abbrev pub HasGoneBack : ℕ → Recogniser → Type 0
 HasGoneBack count self =
     (count ≢ 0) × (self.returned.count ≡ count) × (self.returned.is_sure ≡ true)
 
--- The line's last state is shown for sure: what was seen since counts as not made, no king as
--- lifted, nothing as set up and no doubt as left, and a line that was lost is found.
+-- The line's last state is shown for sure. What was seen since counts as not made, no king as
+-- lifted, nothing as set up and no doubt as left. A line that was lost is found.
 abbrev pub StandsAnew : Recogniser → Type 0
 StandsAnew self =
     (self.memory.seen.items ≡ []) × (self.is_behind ≡ false) × (self.is_astray ≡ false)
