@@ -21,6 +21,12 @@ REFUSED = (
     re.compile(r"(?m)^fn (\S+): not proved; the borrow checker does not cover this function yet: "),
     re.compile(r"(?m)^(?:fn|impl) (\S+): no proof: expected answers in \S+; "),
 )
+FILE = "refused.edits"
+# An entry: what the prover refuses, what it refuses too, and the change, with what goes and comes.
+NAME = r"(?:[^\W_]|[_ '+·-]|::)+"
+NAMES = rf"{NAME}(?:, {NAME})*"
+ENTRY = re.compile(rf"({NAMES})(?: \(also ({NAMES})\))?:(?: (.*))?")
+CHANGED = re.compile(r"(?s)\[-(.*?)-\]|\{\+(.*?)\+\}")
 REFUSED_ANSWERS = re.compile(r"(?m)^\./proofs/(\S+)/Answers\.antt:\d+:\d+: error:")
 
 
@@ -39,49 +45,63 @@ class Edit:
     also: frozenset[str]
 
 
-def parse(name: str, lines: Iterable[str]) -> Edit:
-    """Reads an edit: lines `refused: NAMES`, `also: NAMES`, `file: PATH`, `old: TEXT`, `new: TEXT`.
-    Lines of one kind in a row are one text of several lines."""
-    refused: frozenset[str] = frozenset()
-    also: frozenset[str] = frozenset()
-    changes: list[tuple[str, str, str]] = []
-    file = old = last = ""
-    for line in lines:
-        kind, _, text = line.partition(":")
-        text = text.removeprefix(" ")
-        if kind == "refused":
-            refused = frozenset(text.split(", "))
-        elif kind == "also":
-            also = frozenset(text.split(", "))
-        elif kind == "file":
-            file = text.strip()
-        elif kind == "old":
-            old = f"{old}\n{text}" if last == kind else text
-        elif kind == "new":
-            text = f"{changes.pop()[2]}\n{text}" if last == kind else text
-            changes.append((file, old, text))
-        elif line and not line.startswith("#"):
+def parse(name: str, file: str, lines: list[str]) -> Edit:
+    """Reads an entry: `NAMES (also NAMES): CHANGE`, where the names may take more lines and the
+    change lines with 4 spaces before them, and then `and FILE:` before each further change. What
+    goes stands between `[-` and `-]`, and what comes between `{+` and `+}`."""
+    start = next((at for at, line in enumerate(lines) if line.startswith("    ")), len(lines))
+    head = ENTRY.fullmatch(" ".join(lines[:start]))
+    if not head:
+        raise Failure(f"{name}: no line `NAMES: CHANGE`")
+    texts: list[tuple[str, list[str]]] = [(file, [head[3]] if head[3] else [])]
+    for line in lines[start:]:
+        if other := re.fullmatch(r"and(?: (\S+))?:", line):
+            texts.append((other[1] or texts[-1][0], []))
+        elif line and not line.startswith("    "):
             raise Failure(f"{name}: a line of no kind: {line}")
-        last = kind
-    if not changes or not refused:
-        raise Failure(f"{name}: no line `{'new' if refused else 'refused'}:`")
+        else:
+            texts[-1][1].append(line[4:])
+    changes = []
+    for path, parts in texts:
+        text = "\n".join(parts)
+        old, new = CHANGED.sub(r"\1", text), CHANGED.sub(r"\2", text)
+        if old == new:
+            raise Failure(f"{name}: it changes nothing: {text}")
+        changes.append((path, old, new))
+    refused, also = (frozenset(it.split(", ")) if it else frozenset() for it in head.groups()[:2])
     return Edit(name, tuple(changes), refused, also)
 
 
-def read(path: pathlib.Path) -> list[Edit]:
-    """The edits of a file, each after a line `# SENTENCE`. One with no line `file:` is of the file
-    of the one before."""
+def part_of(edit: Edit) -> str:
+    """`src` for a wrong body, `specs` for an altered definition or a number that laws state."""
+    is_clause = any(" · " in name for name in edit.refused)
+    return "specs" if is_clause else edit.changes[0][0].partition("/")[0]
+
+
+def read(crate: pathlib.Path, part: str = "", edits_file: str = FILE) -> list[Edit]:
+    """The edits of a file of a crate, or those of this part (`part_of`). Each begins with a line
+    `# SENTENCE`, and those of a source stand after `== FILE`."""
     edits: list[Edit] = []
     lines: list[str] = []
     name = file = ""
-    for line in [*path.read_text().splitlines(), "# "]:
-        if line.startswith("# "):
-            edits += [parse(name, [file, *lines])] if lines else []
-            name, lines = line.removeprefix("# "), []
-        elif line:
-            file = line if line.startswith("file: ") else file
+    for line in [*(crate / edits_file).read_text().splitlines(), "# "]:
+        if line.startswith(("# ", "== ")):
+            if name:
+                edits.append(parse(name, file, lines))
+            elif lines:
+                raise Failure(f"{crate.name}: {lines[0]}")
+            name, lines = line.removeprefix("# ") if line[0] == "#" else "", []
+            file = line.removeprefix("== ") if line[0] == "=" else file
+        else:
             lines.append(line)
-    return edits
+    return [edit for edit in edits if part in ("", part_of(edit))]
+
+
+def crates_with(part: str) -> dict[str, int]:
+    """The crates that have edits of this part, and how many."""
+    paths = sorted(ROOT.glob(f"crates/*/{FILE}"))
+    counts = {it.parent.name: len(read(it.parent, part)) for it in paths}
+    return {name: count for name, count in counts.items() if count}
 
 
 def apply(edit: Edit, crate: pathlib.Path, sources: dict[str, str]) -> bool:

@@ -35,7 +35,7 @@ class Clause:
 
     @property
     def path(self) -> str:
-        """As `altered.edits` names it."""
+        """As `refused.edits` names it."""
         function = self.function if self.file == "lib" else f"{self.file}::{self.function}"
         return f"{function} · {self.name}" if self.name else function
 

@@ -4,7 +4,7 @@ doesn't find the clause about it, although it knows the clause about the definit
 crates/NAME/mutants.txt has a line for each definition: a sum of its mutants, their numbers after
 the clause that refuses them, and last a sum of all that was read when they were tried. After `no
 definition` are those that have no sense. By hand you write `same:` and why nothing can refuse the
-others, or `held:` and what was seen to be refused with them: altered.edits has to show it of
+others, or `held:` and what was seen to be refused with them: refused.edits has to show it of
 another mutant of this definition. Those after `left` are still to be decided.
 
 A definition whose line would stay the same is passed over. The last sum covers the logic, the
@@ -219,9 +219,9 @@ def key(mutant: Mutant, clause: Clause) -> tuple[str, Clause]:
 
 
 def shown(root: pathlib.Path) -> set[tuple[str, str]]:
-    """The definitions that altered.edits alters, and what is then refused."""
+    """The definitions that refused.edits alters, and what is then refused."""
     found: set[tuple[str, str]] = set()
-    for edit in altering.read(root / "altered.edits"):
+    for edit in altering.read(root, "specs"):
         for file, old, _ in edit.changes:
             text = (root / file).read_text().partition(old)[0] + old
             names = re.findall(r"(?m)^(?:pub )?(?:abbrev|record)(?: pub)? ([^\s:]+)", text)
@@ -254,7 +254,7 @@ def judge(root: pathlib.Path) -> str:
     held = {(name, label[6:]) for name, labels in known.items() for label in labels.values()
             if label.startswith("held:")}
     if lacking := held - shown(root):
-        raise Failure(f"{root.name}: altered.edits has no mutant of {sorted(lacking)}")
+        raise Failure(f"{root.name}: refused.edits has no mutant of {sorted(lacking)}")
     labels = [it.partition(":")[0] for one in known.values() for it in one.values()]
     made = len(labels) - labels.count(SENSELESS)
     same, proved, left = (labels.count(it.rstrip(":")) for it in BY_HAND)

@@ -21,11 +21,11 @@ import sys
 from collections.abc import Iterable, Iterator
 
 sys.dont_write_bytecode = True
-from altering import ROOT, Failure, needed
+from altering import ROOT, Failure, crates_with, needed, read
 
 NAME = "tests/mutants/tried.txt"
 FILE = ROOT / NAME
-EDITS = {"wrong_bodies": "wrong.edits", "definitions": "altered.edits"}
+EDITS = {"wrong_bodies": "src", "definitions": "specs"}  # what their edits change
 PARTS = ("src", "specs", "proofs")
 HEAD = """\
 # What the prover refused, and a sum of all that this depends on (tests/testing/tried.py). The
@@ -65,7 +65,8 @@ def inputs(check: str, crate: str) -> Iterator[str]:
     yield from toolchain()
     for name in (f"mutants/{check}", "testing/altering.py", "testing/tried.py"):
         yield f"tests/{name} {sum_of(ROOT / 'tests' / name)}"
-    yield f"{EDITS[check]} {sum_of(ROOT / 'crates' / crate / EDITS[check])}"
+    for edit in read(ROOT / "crates" / crate, EDITS[check]):
+        yield f"{edit.name} {sorted(edit.refused)} {sorted(edit.also)} {edit.changes}"
     for name, line in needed([crate]).items():
         yield line
         yield from sources(name)
@@ -122,8 +123,8 @@ def main() -> None:
     signal.signal(signal.SIGPIPE, signal.SIG_DFL)
     known = trusted()
     stale = 0
-    for check, file in EDITS.items():
-        for crate in sorted(path.parent.name for path in ROOT.glob(f"crates/*/{file}")):
+    for check, part in EDITS.items():
+        for crate in crates_with(part):
             if line_of(check, crate) not in known:
                 print(f"tests/mutants/{check} {crate}")
                 stale += 1
