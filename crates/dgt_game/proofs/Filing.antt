@@ -482,7 +482,7 @@ all_is_file line lines = (
 pub steps_are_made : StepsAreMade
 steps_are_made (Event.Made one) = (λ h. inl (one, refl), λ h. tt)
 steps_are_made (Event.Unseen moves) = (λ h. inr (inl (moves, refl)), λ h. tt)
-steps_are_made (Event.Gap state count) = (λ h. inr (inr (state, count, refl)), λ h. tt)
+steps_are_made (Event.Gap state count) = (λ h. inr (inr (state, (count, refl))), λ h. tt)
 steps_are_made (Event.Begun state is_turned) = (λ h. absurd h, search rules)
 steps_are_made (Event.Back count stays) = (λ h. absurd h, search rules)
 steps_are_made (Event.Ended result) = (λ h. absurd h, search rules)
