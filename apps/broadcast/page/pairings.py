@@ -106,7 +106,8 @@ def read(content: bytes) -> Pairings:
 
 def read_pgn(lines: list[str], found: Pairings) -> None:
     """Reads the tags of games. Their moves and results don't count."""
-    tags, begun, is_in_tags = Tags(), 0, False
+    tags: Tags = {}
+    begun, is_in_tags = 0, False
 
     def add() -> None:
         try:

@@ -82,7 +82,8 @@ class Feed:
     def __init__(self, client: Client, number: int | str, serial: str, board: Board) -> None:
         self.number, self.serial, self.board = number, serial, board
         self.game: Game = board.new_game()
-        self._client, self._last = client, Json()
+        self._client = client
+        self._last: Json = {}
         self._stays, self._is_by_number = serial == board.source, False
         self._note_number()
 
