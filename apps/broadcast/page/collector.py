@@ -427,6 +427,7 @@ class Table:
     first: int = 0
     record: tuple[Any, bytes, str] = None, b"", ""  # the game as JSON, and of when
     advice: str = ""  # the reported one
+    goes_on: bool = False  # whether that was reported
     journal: str = ""
     shift: float = 0.0  # of the journal's times
     at: float = 0.0  # the board's time, of its last entry
@@ -686,14 +687,21 @@ class Collector:
             self.finish(name, table, table.place.count - 1)
         if (advice := table.games.advice) != table.advice:
             table.advice = advice
-            self.report_lost(name, advice)
+            self.report_change(name, f"no move leads to this: {advice}" if advice
+                               else "found again")
+        if (goes_on := table.games.goes_on) != table.goes_on:
+            table.goes_on = goes_on
+            if goes_on and table.games.game:
+                self.report_change(name, f"goes on after the result {table.games.game.result}: if "
+                                   "it is wrong, keep * at the desk")
         if (state := table.state()) != table.told:
             table.told = state
             self.tell(name, summary(table.games), table.games.turned)
 
-    def report_lost(self, name: str, advice: str) -> None:
-        """Reports what to put right on a board, or that its game isn't lost any more."""
-        report(f"{name!r}: no move leads to this: {advice}" if advice else f"{name!r}: found again")
+    def report_change(self, name: str, text: str) -> None:
+        """Reports what to put right on a board, that its game isn't lost any more, or that it goes
+        on after its result."""
+        report(f"{name!r}: {text}")
 
     def add(self, name: str) -> Table:
         place = Place(self.shelf, name, self.counts.get(name, 0), self.firsts.get(name, 0))

@@ -70,7 +70,7 @@ class Late(corrected_games.CorrectedGames):
             self.boards.show_time(heard)
         return heard
 
-    def report_lost(self, name: str, advice: str) -> None:
+    def report_change(self, name: str, text: str) -> None:
         """It was reported already."""
 
     def take(self, row: int, journal: str, name: str, at: float, entry: Any) -> None:

@@ -35,6 +35,10 @@ WAIT = 1.0  # seconds before a wrong password is refused
 # seconds have passed.
 MOST_WRONG, EACH = 20, 12.0
 SHOWN = 20  # corrections
+# What is said of a board with moves after a result.
+GOES_ON = "goes on after the result"
+GOES_ON_ADVICE = ("these moves are in no game. If the result was a mistake, keep the result *, and "
+                  "add the moves that are missing.")
 FIELDS = {  # of each form, besides `board` and `game`
     "result": ("result", "why"), "moves": ("before", "moves"), "tags": ("White", "Black", "Round"),
     "clock": ("side",), "swap": ("other",), "round": ("round",)}
@@ -228,6 +232,8 @@ class Desk(web.Visit):
         state, advice = event["state"], advice_of(game)
         if advice and state in ("following", "unknown"):
             state = f"lost: {advice}"
+        elif game and game["goes_on"] and state in ("following", "unknown"):
+            state = GOES_ON
         mark = "" if state == "following" else ' class="bad"'
         return (f'<tr><th scope="row">{link}</th><td>{quoted(white)}</td><td>{quoted(black)}</td>'
                 f'<td>{self.clocks(event)}</td>'
@@ -262,6 +268,8 @@ class Desk(web.Visit):
             f"{diagram(event['placement'])}")
         if now and event and (advice := advice_of(event["game"])):
             now += f'<p class="bad">No move leads to this: {quoted(advice)}</p>'
+        if now and event and event["game"] and event["game"]["goes_on"]:
+            now += f'<p class="bad">The board {GOES_ON}: {GOES_ON_ADVICE}</p>'
         told = shown(game) if game else "No game has begun on this board."
         live = f'<p><a href="/desk">All boards</a> {links}</p>{now}<p>{quoted(told)}</p>'
         title = f"Board {name}, game {chosen}" if game else f"Board {name}"

@@ -23,6 +23,7 @@ def summary(games: dgt.Games) -> Summary | None:
         "to_move": "white" if state.white else "black",
         "last": [last[:2], last[2:4]] if last else None,
         "result": game.result,
+        "goes_on": games.goes_on,
         "white_side": games.white_clock,
         "lost": {"squares": games.lost, "advice": games.advice} if games.lost else None,
         "players": players(game),

@@ -29,16 +29,16 @@ Standard output gets a line for each event:
 
 A game begins when all pieces are on their starting squares, on either side of
 the board. Any other position begins one if it rests for a second at the start,
-or later for five seconds after both kings were taken off and put on last. If no
-moves lead to a position, it begins one after a minute or three further moves.
+or later for five seconds after both kings were taken off and put on last.
+During a game, a position that no moves lead to begins one after a minute or
+three further moves.
 
 A move is printed once it has rested for 0.3 seconds and the board has confirmed
 it with a report of all squares, or once it was answered. While the clock of its
 player runs, it waits for three seconds. Pieces may be lifted in any order,
 slid, and put right. Moves may be taken back: one or two that were made shortly
-before are corrected. More of them, the last one after half a minute, and all of
-a game that has ended stay in the file, and the moves that follow instead are
-another game.
+before are corrected. More of them, the last one after half a minute, and a mate
+stay in the file, and the moves that follow instead are another game.
 
 The players give the result with their kings. They lift both, and put them for a
 second on
@@ -49,7 +49,9 @@ second on
 
 Either king may be on either square. The other pieces stand as in the game, but
 for one, and may be lifted. Mate and stalemate end a game by themselves. After
-the end no moves are recorded until a new game begins.
+the end no moves are recorded until a new game begins. Standard error says once
+that the board goes on, after two half-moves: you analyse, or the result was a
+mistake. Then start dgt-game again: the rest becomes another game.
 
 The PGN file is written after each move. Its other contents stay, and games are
 appended. If it can't be written, standard error says so, the game goes on, and

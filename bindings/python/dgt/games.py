@@ -6,6 +6,7 @@ from collections.abc import Callable, Sequence
 from dataclasses import replace
 from typing import Protocol
 
+from ._after_result import AfterResult
 from ._handle import Uncopied
 from ._turn import to_put
 from ._watched import Watched
@@ -27,10 +28,13 @@ _LOST_WAIT, _SETTING_UP_WAIT = 3.0, 10.0
 wrong, since somebody may be setting up pieces."""
 _MOST_WRONG = 4
 _MOST_SEEN = 256
+_KEPT = 15
+"""The half-moves before a result that are looked for afterwards, if they are taken back."""
 _BROKEN_OFF = "broken off: the board was away, and came back with another position"
 _LOST = "broken off: no move leads to the position after this"
 _GAP = "broken off: the board did not show the order of the next {} half-moves"
 _PARTED = "the next game goes on from the position {}"
+_NEXT = " (start the program again to begin one here)"
 _SOON = 1.5
 """The seconds within which hands that set up pieces go on."""
 _START = GameState.start()
@@ -100,6 +104,8 @@ class Games(Uncopied):
         self._is_new, self._was_away, self._was_empty = True, False, False
         self._hidden = ""  # what the board shows, if a correction says something else
         self._over, self._final_at = "", 0.0  # why the game is over
+        self._after: AfterResult | None = None  # until the board goes on after the result
+        self._goes_on = False
         self._lost, self._advice, self._is_lost = dict[str, str](), "", False
         self._lost_at: float | None = None
         self._back = list[PgnMove]()  # moves that were taken back, the first one last
@@ -115,7 +121,8 @@ class Games(Uncopied):
     @property
     def due(self) -> float | None:
         """The time at which to call `tick`."""
-        times = [self._watched.due, self._save_at, self._lost_at]
+        times = [self._watched.due, self._save_at, self._lost_at,
+                 self._after.due if self._after else None]
         return min((each for each in times if each is not None), default=None)
 
     @property
@@ -143,6 +150,12 @@ class Games(Uncopied):
         return self._is_branch
 
     @property
+    def goes_on(self) -> bool:
+        """Whether two or more half-moves were made after the result. They are in no game: that is
+        an analysis, or the result was a mistake. `end` with `*` takes it back."""
+        return self._goes_on
+
+    @property
     def advice(self) -> str:
         """What to put where while the game is `lost`, such as `put the white knight from g3 on f3`.
         Otherwise empty."""
@@ -167,6 +180,8 @@ class Games(Uncopied):
         if self._first is None and (not self._hidden or letters != self._hidden):
             self._hidden = ""
             self._take(self._watched.see(view, now), now)
+        if self._after is not None:
+            self._note_going_on(self._after.see(view, now))
         if is_sure:
             if self._over == "arbiter" and self._was_empty and self._shown == _START.letters:
                 self._begin_next([], now)  # for the recogniser nothing may have changed
@@ -179,6 +194,8 @@ class Games(Uncopied):
     def tick(self, now: float) -> None:
         """Notes that the board hasn't changed until this time."""
         self._take(self._watched.tick(now), now)
+        if self._after is not None:
+            self._note_going_on(self._after.tick(now))
         self._learn()
         if self._lost_at is not None and now >= self._lost_at:
             self._lost_at = None
@@ -227,11 +244,13 @@ class Games(Uncopied):
         was_final = not game.state.chess.can_move
         game.replace(ply, count, moves)
         self._go_on(ply, bool(moves), now)
+        if self._over and self._is_as_told:
+            self._watch_after(now)
         if not game.state.chess.can_move:
             winner = "0-1" if game.state.white else "1-0"
             self._end(winner if game.state.check else "1/2-1/2", self._why, now)
         elif was_final:
-            game.result, self._over = "*", ""
+            self._resume()
         self._save()
 
     def end(self, result: str, now: float) -> None:
@@ -245,7 +264,7 @@ class Games(Uncopied):
             self._end(result, "arbiter", now)
             return
         self._part()
-        game.result, self._over = result, ""
+        self._resume()
         self._go_on(len(game.moves), True, now)
         self._save()
 
@@ -447,8 +466,8 @@ class Games(Uncopied):
         self._text = _GameText(self.game)
         self._is_in_file = self._is_branch = False
         self._settled = self._fixed = self._held = 0
-        self._over = self._advice = ""
-        self._lost, self._is_lost, self._was_empty = {}, False, False
+        self._resume()
+        self._lost, self._advice, self._is_lost, self._was_empty = {}, "", False, False
         self._gaps.clear()
         self._seen.clear()
         self._learner.new_game()
@@ -487,7 +506,7 @@ class Games(Uncopied):
         if stays:
             self._held = len(self.game.moves) + len(self._back)
         self._is_back_now, self._back_at, self._is_left_soon = True, self._changed_at, False
-        self.game.result, self._over = "*", ""
+        self._resume()
         for left in range(len(self.game.moves) - 1, len(self.game.moves) - 1 - count, -1):
             made = self.game.moves.pop()
             self._back.append(made)
@@ -556,7 +575,26 @@ class Games(Uncopied):
         if why != "arbiter" and not self._gaps:
             self.game.comment = ""
         self._final_at = now + _FINAL_WAIT if why in ("mate", "stalemate") else now
+        self._watch_after(now)
         self._report(f"result {result} {why}")
+
+    def _resume(self) -> None:
+        """Takes back the result."""
+        assert self.game is not None
+        self.game.result, self._over, self._after, self._goes_on = "*", "", None, False
+
+    def _watch_after(self, now: float) -> None:
+        """Looks from now on for moves after the result."""
+        assert self.game is not None
+        states = [*(made.before for made in self.game.moves[-_KEPT:]), self.game.state]
+        self._after, self._goes_on = AfterResult(states, self.turned, now), False
+
+    def _note_going_on(self, goes_on: bool) -> None:
+        """Warns once if the board goes on after the result."""
+        if goes_on and self.game is not None:
+            self._after, self._goes_on = None, True
+            self._warn(f"the board goes on after the result {self.game.result}: these moves are in "
+                       f"no game{'' if self._over == 'arbiter' else _NEXT}")
 
     def _await_loss(self, is_sure: bool) -> None:
         """Notes when to report that the game is lost."""
