@@ -40,7 +40,7 @@
  *  - Two calls with the same handle never run at once: neither in two threads without a lock
  *    between them, nor in a signal handler. Different handles are independent. A handle may pass to
  *    another thread under a lock, or by starting or joining that thread.
- *  - Each call has 64 KiB of free stack. That this suffices is tested, not proved.
+ *  - Each call has 80 KiB of free stack. That this suffices is tested, not proved.
  *
  * Calls that only read still take a handle that isn't const, because they need exclusive access to
  * it. A struct or a slice that a call writes may be uninitialised; the bytes of a slice after those

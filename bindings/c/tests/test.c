@@ -403,9 +403,9 @@ static void all_calls(void) {
     no_bytes_of_boards();
 }
 
-/* Makes the calls with less stack than the 64 KiB of dgt.h: this is half of the thread's. */
+/* Makes the calls with less stack than the 80 KiB of dgt.h: this is half of the thread's. */
 static void *with_half_a_stack(void *unused) {
-    volatile uint8_t half[64 * 1024];
+    volatile uint8_t half[80 * 1024];
     half[0] = 0;
     all_calls();
     CHECK(half[0] == 0);
@@ -413,9 +413,9 @@ static void *with_half_a_stack(void *unused) {
 }
 
 int main(void) {
-    pthread_attr_t small; /* 128 KiB, the least on some processors */
+    pthread_attr_t small; /* 160 KiB */
     pthread_t thread;
-    CHECK(!pthread_attr_init(&small) && !pthread_attr_setstacksize(&small, 128 * 1024));
+    CHECK(!pthread_attr_init(&small) && !pthread_attr_setstacksize(&small, 160 * 1024));
     CHECK(!pthread_attr_setguardsize(&small, 1024 * 1024)); /* more than a call can skip */
     CHECK(!pthread_create(&thread, &small, with_half_a_stack, NULL));
     CHECK(!pthread_join(thread, NULL));
